@@ -1,11 +1,11 @@
 #!/usr/bin/env python3
 """Checks what long runs tell of how far they are.
 
-    progress.py SCALE ..   these builds of `scale`
+    progress.py SCALE .. -- PACE ..   these builds of `scale` and of `pace`
 
 Where standard error is a terminal, a run of more than a second tells on it how far it is: a line that is written anew, at most twice a second, and cleared in the end.
 Standard output and the stored file are the same as without a terminal. Where it is none, where `SCALE_QUIET` is set, and in a short run, nothing is told.
-The top call that tells how far it is has the clauses of the one that doesn't, letter by letter.
+The top call of each program that tells how far it is has the clauses of the one that doesn't, letter by letter.
 """
 
 import os
@@ -27,17 +27,23 @@ import runs  # noqa: E402
 # Counts down from a multiple of 4,096 with a load, a sum and a store each time, and exits.
 WORDS = [0xFE012303, 0x00130313, 0xFE612023, 0xFFF28293, 0xFE0298E3, 0x05D00893, 0x00000073]
 LOOPS = "version = 1\n[[loop]]\nheader = 0x10004\nranges = [[0x10004, 0x10018]]\nbound = 1000000000\n"
-TOPS = [("scale_tool/src/tool.rt", "run_tool")]
+TOPS = [("scale_tool/src/tool.rt", "run_tool"), ("pace_tool/src/pace.rt", "run_pace")]
 # The seconds that a run is to take at least, and before the first line and between two.
 LONG, FIRST, NEXT = 3.0, 1.0, 0.5
 # The most multiples that are tried.
 MOST = 1 << 17
+# The most inputs of a command: a draft runs at most so many steps on each that many are needed for a long run.
+MOST_INPUTS = 64
 SECONDS = 300
 STEPS = rb"(0|[1-9]\d*) steps"
 LINE = {
     "simulate": rb"scale: " + STEPS,
     "survey": rb"scale: input [12] of 2, " + STEPS,
     "tune": rb"scale: (candidate (\d|[12]\d|3[0-3]) of 33, )?(input 1 of 1, )?" + STEPS,
+    "fit": rb"pace: (candidate \d+ of \d+, )?(input 1 of 1, )?" + STEPS,
+    "all": rb"pace: (candidate \d+ of \d+, )?(input 1 of 1, )?" + STEPS,
+    "loops": rb"pace: input [1-9]\d? of %d, " % MOST_INPUTS + STEPS,
+    "draw run": rb"pace: input [12] of 2, " + STEPS,
 }
 
 
@@ -140,7 +146,7 @@ def check_short(folder, words):
 
 
 def main():
-    scales = list(map(os.path.abspath, sys.argv[1:]))
+    scales, paces = (list(map(os.path.abspath, group)) for group in (sys.argv[1 : sys.argv.index("--")], sys.argv[sys.argv.index("--") + 1 :]))
     os.environ.pop("SCALE_QUIET", None)
     wrong = list(check_clauses())
     with tempfile.TemporaryDirectory(prefix="progress-") as folder:
@@ -154,7 +160,13 @@ def main():
             wrong += check(folder, "simulate", simulate)
             wrong += check(folder, "survey", [scale, "survey", "image", "image", "machine", "loops", "input", "input"])
             wrong += check(folder, "tune", [scale, "tune", "image", "machine", "loops", "out", "input"])
-    print("\n".join([*wrong, "progress: %d builds of scale%s" % (len(scales), ", and not all as expected" if wrong else " as expected")]))
+        for pace in paces:
+            wrong += check(folder, "fit", [pace, "fit", "image", "machine", "loops", "out", "input"])
+            wrong += check(folder, "all", [pace, "all", "image", "machine", "out", "input"])
+            wrong += check(folder, "loops", [pace, "loops", "image", "out", *MOST_INPUTS * ["input"]])
+            wrong += check(folder, "draw run", [pace, "draw", "run", "machine", "out", *2 * ["image", "input"]])
+    builds = "%d builds of scale and %d of pace" % (len(scales), len(paces))
+    print("\n".join([*wrong, "progress: %s%s" % (builds, ", and not all as expected" if wrong else " as expected")]))
     return 1 if wrong else 0
 
 

@@ -2,6 +2,7 @@
 
 use crate::fixtures::*;
 use run_pictures::{DrawnFiles, draw_runs, picture_svg, picture_text};
+use run_progress::Silent;
 use std::alloc::Global;
 use std::test::Fail;
 
@@ -13,7 +14,7 @@ fn drawn(alloc: Global, files: &Files<'_>) -> Result<String, Fail> {
         image: files.image.as_slice(),
         input: &[],
     };
-    match draw_runs(alloc, files.machine.as_bytes(), &[pair]) {
+    match draw_runs(alloc, files.machine.as_bytes(), &[pair], &mut Silent) {
         Ok(picture) => {
             let mut text = picture_svg(alloc, &picture)?;
             let line = picture_text(alloc, &picture)?;

@@ -3,13 +3,14 @@
 use crate::loops::SIMPLE;
 use crate::programs::{expect_parts, image_of};
 use loop_drafts::{draft_loops, filled_text};
+use run_progress::Silent;
 use std::alloc::Global;
 use std::test::Fail;
 
 /// The draft of a program with this bound where the code shows none.
 fn filled_draft(alloc: Global, words: &[u32], bound: u32) -> Result<String, Fail> {
     let image = image_of(alloc, words)?;
-    match draft_loops(alloc, &image, &[]) {
+    match draft_loops(alloc, &image, &[], &mut Silent) {
         Ok(draft) => Ok(filled_text(alloc, &draft.pieces, bound)?),
         Err(_) => Err("there is a draft".into()),
     }

@@ -7,6 +7,7 @@ use crate::candidates::{WORDS_LOOKED_AT, counting_registers, counting_words};
 use crate::limits::{Limits, limits_within};
 use crate::quiet::quiet_of;
 use crate::scope::Scope;
+use crate::turning::find_turns;
 use crate::turns::{Turns, turns_of};
 use elf_image::ImageView;
 use flow_graph::CodeGraph;
@@ -14,11 +15,15 @@ use loop_forest::LoopTree;
 use scale_base::NoMemory;
 use shown_bounds::{StackCertificate, StackCounter};
 use std::alloc::Global;
+use turn_checks::{TurnKind, TurnPlace, TurnTable};
 use value_analysis::Tables;
 use wrapped_intervals::Measure;
 
 /// Bounds from here on say nothing.
 const NO_BOUND: u32 = 0x8000_0000;
+
+/// Where a counter has such a bound, it is looked at what else turns do.
+const WIDE: u32 = 1_000_000_000;
 
 /// The best counter so far, and what the turns add to it.
 #[derive(Drop)]
@@ -156,7 +161,51 @@ fn certificate_of(
         adds: turns.adds,
         offset: turns.offset,
         quiet,
+        turns: None,
     })
+}
+
+// A certificate by what each turn does.
+fn certificate_by(alloc: Global, table: TurnTable) -> StackCertificate {
+    StackCertificate {
+        counter: counter_by(&table),
+        width: table.width,
+        least: table.least,
+        body: Vec::new(alloc),
+        adds: Vec::new(alloc),
+        offset: Vec::new(alloc),
+        quiet: Vec::new(alloc),
+        turns: Some(table),
+    }
+}
+
+// What is counted in, by what each turn does.
+fn counter_by(table: &TurnTable) -> StackCounter {
+    let (factor, shift) = match table.kind {
+        TurnKind::Moves(factor, shift) => (factor, shift),
+        TurnKind::Lowers => (u32::MAX, 0),
+        TurnKind::Halves(_) => (u32::MAX, 0),
+    };
+    match table.place {
+        TurnPlace::Register(r) => StackCounter::InRegisters(Measure {
+            factor,
+            shift,
+            ..register_measure(r)
+        }),
+        TurnPlace::Word(number) => StackCounter::InWord {
+            number,
+            factor,
+            shift,
+        },
+    }
+}
+
+// Whether there is a counter whose bound is less than a number.
+fn is_within(counter: &Option<Choice>, number: u32) -> bool {
+    match counter {
+        Some(choice) => choice.limits.bound() < number,
+        None => false,
+    }
 }
 
 /// A certificate of loop `k`, of the least bound that is found; none where nothing is found, or a bound that says nothing.
@@ -177,7 +226,13 @@ pub fn find_certificate(
     }
     let register = choose_register(alloc, &scope)?;
     let place = choose_word(alloc, &scope, register)?;
-    match choose_sum(alloc, &scope, place)? {
+    let counter = choose_sum(alloc, &scope, place)?;
+    if !is_within(&counter, WIDE) {
+        if let Some(table) = find_turns(alloc, &scope)? {
+            return Ok(Some(certificate_by(alloc, table)));
+        }
+    }
+    match counter {
         Some(choice) if choice.limits.bound() < NO_BOUND => {
             Ok(Some(certificate_of(alloc, scope, choice)?))
         }

@@ -9,8 +9,10 @@ mod certificates;
 mod heights;
 mod limits;
 mod quiet;
+mod relating;
 mod scope;
 mod stores;
+mod turning;
 mod turns;
 
 pub use certificates::find_certificate;

@@ -10,8 +10,8 @@ use scale_base::{Instr, NoMemory};
 use stack_tables::{Name, Word};
 use std::alloc::Global;
 use value_analysis::Tables;
-use value_checks::Line;
-use wrapped_intervals::{Arc, Measure, exactly};
+use value_checks::{Line, are_arcs_kept};
+use wrapped_intervals::{Arc, Measure, exactly, passed};
 
 /// A loop that is looked at: its header, its nodes, and by node whether it is one of them.
 #[derive(Drop)]
@@ -85,6 +85,15 @@ impl<'a> Scope<'a> {
         }
     }
 
+    // The address of a node.
+    fn address(&self, k: usize) -> Option<u32> {
+        if k < self.graph.node_count() {
+            Some(self.graph.node(k))
+        } else {
+            None
+        }
+    }
+
     // Where an edge leads, if it is below the end.
     fn target(&self, e: usize, end: usize) -> Option<usize> {
         if e < end && e < self.graph.edge_count() {
@@ -139,6 +148,15 @@ impl<'a> Scope<'a> {
         }
         let row = self.tables.values.rows.get(k)?;
         row.get(usize::from(r)).copied().flatten()
+    }
+
+    /// The interval of a register behind a node's instruction, on the way to another node.
+    pub fn arc_on(&self, k: usize, to: usize, r: u8) -> Option<Arc> {
+        let row = self.tables.values.rows.get(k)?;
+        if r >= 32 || !are_arcs_kept(row) {
+            return None;
+        }
+        passed(self.instr(k), self.address(k)?, self.address(to)?, row, r)
     }
 
     /// Where its value comes from.

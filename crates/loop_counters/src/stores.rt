@@ -4,7 +4,7 @@ ghost use Rattle.std.specs.Prelude.{◌≡◌, true};
 ghost use Rattle.wrapped_intervals.specs.Small.{IsKept, IsKeptOr};
 
 use crate::scope::{Callee, Scope};
-use scale_base::{Instr, StoreOp};
+use scale_base::{Instr, LoadOp, StoreOp};
 use stack_tables::{Name, word_number};
 use wrapped_intervals::{Arc, covers, sum_with};
 
@@ -260,4 +260,25 @@ fn is_held(scope: &Scope<'_>, k: usize, number: u32) -> bool {
 /// Whether a call at a node keeps a word of the stack.
 pub fn is_safe(scope: &Scope<'_>, k: usize, callee: Callee, number: u32) -> bool {
     scope.is_spared(callee.entry) && is_placed(scope, k, number) && is_held(scope, k, number)
+}
+
+// How far above what x2 had when the function began a load's address is.
+fn loaded_at(scope: &Scope<'_>, k: usize) -> Option<u32> {
+    match scope.instr(k) {
+        Instr::Load {
+            op: LoadOp::Lw,
+            rs1,
+            offset,
+            ..
+        } => {
+            let above = above_begin(scope.name(k, rs1))?;
+            Some(above.wrapping_add(offset.cast_unsigned()))
+        }
+        _ => None,
+    }
+}
+
+/// The word of the stack that the instruction of a node loads, where the name of a register says which.
+pub fn loaded_word(scope: &Scope<'_>, k: usize) -> Option<u32> {
+    word_number(loaded_at(scope, k)?)
 }

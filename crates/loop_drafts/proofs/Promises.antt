@@ -7,8 +7,8 @@ use Rattle.loop_file.specs.Loops.{read_loops}
 use Rattle.code_text.specs.Text.{text_of}
 use Rattle.code_text.specs.TextGraph.{text_graph}
 use Rattle.graph_runs.specs.KeptRuns.{IsKeptUpTo}
-use Rattle.stack_laws.specs.Counting.{IsShown}
-use Rattle.stack_laws.proofs.Laws.{shown_kept, shown_by_returns}
+use Rattle.turn_laws.specs.Relating.{IsShown}
+use Rattle.turn_laws.proofs.Laws.{shown_kept, shown_by_returns}
 use Rattle.loop_drafts.specs.declared.drafted.LoopDraft.{LoopDraft}
 use Rattle.loop_drafts.specs.Bounds.{most_turns, is_bounded, IsOpen, IsBoundShown, AreNoneFound, AreBoundsShown, AreBoundsFound}
 use Rattle.loop_drafts.specs.Pieces.{printed}

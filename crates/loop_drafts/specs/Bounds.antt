@@ -9,7 +9,7 @@ use Rattle.loop_file.specs.declared.notes.LoopNote.{LoopNote}
 use Rattle.loop_file.specs.Kept.{note_at, noted_loops}
 use Rattle.bound_laws.specs.Values.{Values}
 use Rattle.stack_laws.specs.Stacks.{Stacks}
-use Rattle.stack_laws.specs.Counting.{IsShown}
+use Rattle.turn_laws.specs.Relating.{IsShown}
 use Rattle.stack_laws.specs.Returning.{ComesBack}
 use Rattle.stack_laws.specs.Laws.{IsStackAnalysed}
 

@@ -10,7 +10,7 @@ ghost use Rattle.loop_drafts.specs.Bounds.{AreBoundsFound, AreNoneFound, IsOpen,
 ghost use Rattle.loop_drafts.specs.Sought.{AreFoundBy, AreReturnsFoundBy, IsFoundBy};
 
 use crate::counting::dear_loops;
-use crate::draft::{Counter, Draft, Known, Place, Reason};
+use crate::draft::{Counter, Draft, Known, Place, Reason, Way};
 use crate::exact::is_exact;
 use crate::noted::{GREATEST_BOUND, bounded_by};
 use elf_image::ImageView;
@@ -24,6 +24,7 @@ use shown_bounds::{StackCertificate, StackCounter, comes_back, is_shown};
 use stack_checks::is_stack_analysed;
 use stack_tables::{StackClaim, is_stack_sized};
 use std::alloc::Global;
+use turn_checks::TurnKind;
 use value_analysis::{Tables, analyse_loops};
 use value_checks::is_sized;
 use wrapped_intervals::Measure;
@@ -104,6 +105,14 @@ fn place_of(measure: Measure) -> Place {
     }
 }
 
+// What turns do to what they count in, by the factor of a counter that goes up from 0.
+fn way_of(certificate: &StackCertificate, factor: u32) -> Way {
+    match &certificate.turns {
+        Some(table) if matches!(&table.kind, TurnKind::Halves(_)) => Way::Shorter,
+        _ => { if factor == 1 { Way::Up } else { Way::Down } }
+    }
+}
+
 // The counter of a certificate.
 fn counter_of(certificate: &StackCertificate) -> Counter {
     let (place, factor) = match certificate.counter {
@@ -112,7 +121,7 @@ fn counter_of(certificate: &StackCertificate) -> Counter {
     };
     Counter {
         place,
-        falls: factor != 1,
+        way: way_of(certificate, factor),
         step: certificate.least,
         width: certificate.width,
     }
@@ -285,6 +294,20 @@ fn bounds_by(
     seek_all(alloc, claim, sources, notes)
 }
 
+// By loop whether counting it costs little, where loops are to be counted.
+fn loops_to_count(
+    alloc: Global,
+    graph: &CodeGraph,
+    tree: &LoopTree,
+    counts: bool,
+) -> Result<Vec<bool>, NoMemory> {
+    if counts {
+        dear_loops(alloc, graph, tree)
+    } else {
+        Ok(Vec::new(alloc))
+    }
+}
+
 // The bounds of loops that are taken.
 fn bounds_of(
     alloc: Global,
@@ -292,6 +315,7 @@ fn bounds_of(
     graph: &CodeGraph,
     tree: &LoopTree,
     notes: &LoopNotes,
+    counts: bool,
 ) -> Result<Bounds, NoMemory>
     requires { IsGraphOf (text_of view.now) graph.now }
     ensures found { IfOk result (λ b. AreBoundsFound view.now b.notes.items b.returns) }
@@ -308,7 +332,7 @@ fn bounds_of(
         table: &tables.values,
         stack: &tables.stack,
     };
-    let dear = dear_loops(alloc, graph, tree)?;
+    let dear = loops_to_count(alloc, graph, tree, counts)?;
     let sources = Sources {
         tree,
         tables: &tables,
@@ -317,19 +341,21 @@ fn bounds_of(
     bounds_by(alloc, &claim, &sources, notes)
 }
 
-/// The bounds of noted loops that the code shows, and whether returns go back. Where the loops aren't taken, nothing is looked for.
+/// The bounds of noted loops that the code shows, and whether returns go back; and which loops are to be counted, where some may be. Where the loops aren't taken,
+/// nothing is looked for.
 pub fn find_bounds(
     alloc: Global,
     view: &ImageView<'_>,
     graph: &CodeGraph,
     notes: &LoopNotes,
+    counts: bool,
 ) -> Result<Bounds, NoMemory>
     requires { IsGraphOf (text_of view.now) graph.now }
     ensures found { IfOk result (λ b. AreBoundsFound view.now b.notes.items b.returns) }
     ensures least { IfOk result (λ b. All NeedNotTurn b.notes.items) }
 {
     match build_loops(alloc, graph, notes) {
-        Ok(tree) => bounds_of(alloc, view, graph, &tree, notes),
+        Ok(tree) => bounds_of(alloc, view, graph, &tree, notes, counts),
         Err(Stop::Refused(_)) => open_all(alloc, notes, Reason::EnteredAside),
         Err(Stop::Memory) => Err(NoMemory),
     }

@@ -16,11 +16,20 @@ pub enum Place {
     StackWord(u32),
 }
 
-/// A place that each turn of a loop moves on by `step` at least, up or down, and that is within a span of `width` numbers at the header.
+/// What each turn of a loop does to a place: it moves it up or down, or takes bits away from it, as a division by a power of 2 does.
+#[derive(Clone, Copy)]
+pub enum Way {
+    Up,
+    Down,
+    Shorter,
+}
+
+/// A place that each turn of a loop moves on by `step` at least, and that is within a span of `width` numbers at the header. Where turns take bits away, each takes
+/// `step` of them at least, and the place has so many at the header that they fit into `width` as often as turns may begin with one.
 #[derive(Clone, Copy)]
 pub struct Counter {
     pub place: Place,
-    pub falls: bool,
+    pub way: Way,
     pub step: u32,
     pub width: u32,
 }
@@ -29,6 +38,11 @@ impl Counter {
     /// How many turns the span allows.
     pub fn bound(&self) -> u32 {
         self.width.checked_div(self.step).unwrap_or(u32::MAX)
+    }
+
+    /// How many bits the place has at the header, where turns take some of them away.
+    pub fn bits(&self) -> u32 {
+        self.width.saturating_add(1).saturating_sub(self.step)
     }
 }
 
@@ -68,7 +82,7 @@ impl Known {
 pub enum Reason {
     /// None was looked for yet.
     NotSought,
-    /// No register and no word of the stack is found that each turn moves on by constants, within a span that is known at the header.
+    /// No register and no word of the stack is found that each turn moves on or divides, within a span that is known at the header.
     NoCounter,
     /// The span of its counter is too wide for a bound.
     TooWide,
@@ -89,7 +103,7 @@ impl fmt::Display for Reason {
             Reason::NoCounter => {
                 write!(
                     f,
-                    "no register or stack word goes on by a constant each turn, between limits that are known"
+                    "no register or stack word is found that each turn moves on or halves, between limits that are known"
                 )
             }
             Reason::TooWide => write!(f, "the limits of its counter are too far apart"),

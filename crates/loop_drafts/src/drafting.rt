@@ -1,6 +1,6 @@
 //! The draft of an image's loop file, and whether its loops are taken.
 
-ghost use Rattle.std.specs.Prelude.{◌≡◌, ℕ, codes, vec_len, Bool, IfOk, None};
+ghost use Rattle.std.specs.Prelude.{◌≡◌, ℕ, codes, vec_len, Bool, true, IfOk, None};
 ghost use Rattle.std.specs.List.{All};
 ghost use Rattle.scale_base.specs.Answer.{AnswersBy, Refuses};
 ghost use Rattle.scale_base.specs.declared.refusal.Refusal.TheVariants.{TooLarge};
@@ -29,6 +29,7 @@ use flow_graph::CodeGraph;
 use loop_file::{LoopNote, LoopNotes, read_loops};
 use loop_forest::LoopTree;
 use loop_tree::build_loops;
+use run_progress::Progress;
 use scale_base::{Name, NoMemory, Refusal, Stop};
 use scale_sites::counters;
 use std::alloc::Global;
@@ -86,30 +87,31 @@ fn check_loops(
     Err(Stop::Refused(refusal))
 }
 
-// That a rewritten image takes what is noted as counted. It always does, since no other loops are proposed; nothing is proved of what is proposed.
-fn check_counters(alloc: Global, graph: &CodeGraph, tree: &LoopTree) -> Result<(), NoMemory>
+// Whether a rewritten image takes what is noted as counted. Nothing is proved of what is proposed, so that it is looked at.
+fn are_counters_taken(alloc: Global, graph: &CodeGraph, tree: &LoopTree) -> Result<bool, NoMemory>
     requires { (extent : ℕ → ℕ → Bool) × IsLoopTree graph.now extent tree.now }
-    ensures { IfOk result (λ _. IsCountable graph.now tree.now) }
+    ensures { IfOk result (λ taken. taken ≡ true → IsCountable graph.now tree.now) }
 {
     match counters(alloc, graph, tree) {
-        Ok(_) => Ok(()),
-        Err(_) => Err(NoMemory),
+        Ok(_) => Ok(true),
+        Err(Stop::Refused(_)) => Ok(false),
+        Err(Stop::Memory) => Err(NoMemory),
     }
 }
 
-// That it takes what notes count, where their loops are taken.
-fn check_counts(
+// Whether it takes what notes count, where their loops are taken.
+fn are_counts_taken(
     alloc: Global,
     graph: &CodeGraph,
     notes: &LoopNotes,
     aside: usize,
-) -> Result<(), NoMemory>
-    ensures { IfOk result (λ _. AreCountable graph.now notes.now aside) }
+) -> Result<bool, NoMemory>
+    ensures { IfOk result (λ taken. taken ≡ true → AreCountable graph.now notes.now aside) }
 {
     match build_loops(alloc, graph, notes) {
-        Ok(tree) => check_counters(alloc, graph, &tree),
-        Err(Stop::Refused(_)) if aside > 0 => Ok(()),
-        Err(_) => Err(NoMemory),
+        Ok(tree) => are_counters_taken(alloc, graph, &tree),
+        Err(Stop::Refused(_)) => Ok(aside > 0),
+        Err(Stop::Memory) => Err(NoMemory),
     }
 }
 
@@ -160,7 +162,10 @@ fn check_pieces(
     }
     let aside = sketch.found.aside.len();
     check_loops(alloc, sketch.graph, &notes, aside)?;
-    check_counts(alloc, sketch.graph, &notes, aside)?;
+    let taken = are_counts_taken(alloc, sketch.graph, &notes, aside)?;
+    if !taken {
+        return Ok(false);
+    }
     Ok(true)
 }
 
@@ -221,7 +226,32 @@ fn draft_open(alloc: Global, sketch: &Sketch<'_>, notes: &LoopNotes) -> Result<L
     }
 }
 
-// The draft of a sketch: with the bounds that are found for the notes of a file without bounds.
+// The draft with the bounds that are found for the notes of a file without bounds, where its file has them.
+fn draft_found(
+    alloc: Global,
+    sketch: &Sketch<'_>,
+    notes: &LoopNotes,
+    counts: bool,
+) -> Result<Option<LoopDraft>, Stop>
+    requires { IsGraphOf (text_of sketch.now.view.now) sketch.now.graph.now }
+    ensures { AnswersBy (λ draft. draft) result (IsDraftTried sketch.now.view.now sketch.now.graph.now) }
+{
+    let bounds = find_bounds(alloc, sketch.view, sketch.graph, notes, counts)?;
+    draft_bounds(alloc, sketch, &bounds)
+}
+
+// The same that counts no loops, or else the draft without bounds.
+fn draft_uncounted(alloc: Global, sketch: &Sketch<'_>, notes: &LoopNotes) -> Result<LoopDraft, Stop>
+    requires { IsGraphOf (text_of sketch.now.view.now) sketch.now.graph.now }
+    ensures { AnswersBy (λ draft. draft) result (IsGraphDrafted sketch.now.view.now sketch.now.graph.now) }
+{
+    match draft_found(alloc, sketch, notes, false)? {
+        Some(draft) => Ok(draft),
+        None => draft_open(alloc, sketch, notes),
+    }
+}
+
+// The draft of a sketch. Where a rewritten image doesn't take what it counts, none that counts: it always does, since no other loops are proposed.
 fn draft_sketch(alloc: Global, sketch: &Sketch<'_>) -> Result<LoopDraft, Stop>
     requires { IsGraphOf (text_of sketch.now.view.now) sketch.now.graph.now }
     ensures { AnswersBy (λ draft. draft) result (IsGraphDrafted sketch.now.view.now sketch.now.graph.now) }
@@ -230,19 +260,19 @@ fn draft_sketch(alloc: Global, sketch: &Sketch<'_>) -> Result<LoopDraft, Stop>
     let remarks = remarks_of(sketch).brief();
     let pieces = pieces_of(alloc, &remarks, &sketch.found, &known, false)?;
     let notes = read_pieces(alloc, sketch.view, &pieces)?;
-    let bounds = find_bounds(alloc, sketch.view, sketch.graph, &notes)?;
-    match draft_bounds(alloc, sketch, &bounds)? {
+    match draft_found(alloc, sketch, &notes, true)? {
         Some(draft) => Ok(draft),
-        None => draft_open(alloc, sketch, &notes),
+        None => draft_uncounted(alloc, sketch, &notes),
     }
 }
 
 /// The draft of the loops of a graph, or why they have none.
-fn draft_graph<'a>(
+fn draft_graph<'a, P: Progress>(
     alloc: Global,
     view: &'a ImageView<'a>,
     graph: &'a CodeGraph,
     inputs: &[Vec<u8>],
+    progress: &mut P,
 ) -> Result<LoopDraft, Stop>
     requires plain { view.now.keyed_segment ≡ None }
     requires graph { IsGraphOf (text_of view.now) graph.now }
@@ -255,7 +285,7 @@ fn draft_graph<'a>(
     }
     let names = names_of(alloc, view)?;
     let lines = lines_of(alloc, view)?;
-    let turns = turns_of(alloc, view, &found.loops, inputs)?;
+    let turns = turns_of(alloc, view, &found.loops, inputs, progress)?;
     let sketch = Sketch {
         view,
         graph,
@@ -268,21 +298,31 @@ fn draft_graph<'a>(
 }
 
 /// The draft of an image without a keyed segment.
-fn draft_plain(alloc: Global, view: &ImageView<'_>, inputs: &[Vec<u8>]) -> Result<LoopDraft, Stop>
+fn draft_plain<P: Progress>(
+    alloc: Global,
+    view: &ImageView<'_>,
+    inputs: &[Vec<u8>],
+    progress: &mut P,
+) -> Result<LoopDraft, Stop>
     requires { view.now.keyed_segment ≡ None }
     ensures { AnswersBy (λ draft. draft) result (IsDraftedImage view.now) }
 {
     let graph = build_graph(alloc, view)?;
-    draft_graph(alloc, view, &graph, inputs)
+    draft_graph(alloc, view, &graph, inputs, progress)
 }
 
 /// The draft of an image.
-fn draft_image(alloc: Global, view: &ImageView<'_>, inputs: &[Vec<u8>]) -> Result<LoopDraft, Stop>
+fn draft_image<P: Progress>(
+    alloc: Global,
+    view: &ImageView<'_>,
+    inputs: &[Vec<u8>],
+    progress: &mut P,
+) -> Result<LoopDraft, Stop>
     ensures { AnswersBy (λ draft. draft) result (IsDraftedImage view.now) }
 {
     match view.keyed() {
         Some(_) => Err(Stop::Refused(Refusal::AlreadyScaled)),
-        None => draft_plain(alloc, view, inputs),
+        None => draft_plain(alloc, view, inputs, progress),
     }
 }
 
@@ -294,10 +334,15 @@ fn draft_image(alloc: Global, view: &ImageView<'_>, inputs: &[Vec<u8>]) -> Resul
 ///
 /// Comments tell of each loop its source line, where the image has debug lines, and how it turned in the image's runs on the inputs, each of at most 10,000,000
 /// steps, where there are inputs. Where the file would have more than 900,000 bytes with these, they are left out. They change nothing of what is promised, and nothing
-/// is promised of them.
-pub fn draft_loops(alloc: Global, image: &[u8], inputs: &[Vec<u8>]) -> Result<LoopDraft, Stop>
+/// is promised of them. How far these runs are is told.
+pub fn draft_loops<P: Progress>(
+    alloc: Global,
+    image: &[u8],
+    inputs: &[Vec<u8>],
+    progress: &mut P,
+) -> Result<LoopDraft, Stop>
     ensures { AnswersBy (λ draft. draft) result (IsDrafted image.now) }
 {
     let view = read_image(alloc, image)?;
-    draft_image(alloc, &view, inputs)
+    draft_image(alloc, &view, inputs, progress)
 }

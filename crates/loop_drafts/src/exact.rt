@@ -199,6 +199,14 @@ fn begins_function(graph: &CodeGraph, header: usize) -> bool {
     header >= graph.node_count() || graph.entry_node(graph.owner(header)) == header
 }
 
+// By node of a certificate, whether it is code of the loop.
+fn body_of(certificate: &StackCertificate) -> &[bool] {
+    match &certificate.turns {
+        Some(table) => &table.body,
+        None => &certificate.body,
+    }
+}
+
 /// Whether a loop with this header and this certificate turns as often each time it is entered, as the tables have it: its counter has one value where it is
 /// entered, and one where it is left.
 pub fn is_exact(claim: &StackClaim<'_>, header: usize, certificate: &StackCertificate) -> bool
@@ -208,7 +216,7 @@ pub fn is_exact(claim: &StackClaim<'_>, header: usize, certificate: &StackCertif
         return false;
     }
     let looped = Looped {
-        body: &certificate.body,
+        body: body_of(certificate),
         counter: certificate.counter,
     };
     let mut ends = Ends {

@@ -6,6 +6,7 @@ use crate::found::FoundLoop;
 use code_names::{Names, PlaceWords};
 use debug_lines::Lines;
 use elf_image::ImageView;
+use run_progress::Progress;
 use scale_base::{End, NoMemory};
 use scale_report::{Address, EndWords};
 use std::alloc::{AllocError, Global};
@@ -32,17 +33,18 @@ fn places_of<'a>(alloc: Global, loops: &'a [FoundLoop]) -> Result<Vec<LoopPlace<
     Ok(places)
 }
 
-/// How loops, which ascend by their headers, turn in the runs of an image on inputs.
-pub fn turns_of(
+/// How loops, which ascend by their headers, turn in the runs of an image on inputs. How far it is is told.
+pub fn turns_of<P: Progress>(
     alloc: Global,
     view: &ImageView<'_>,
     loops: &[FoundLoop],
     inputs: &[Vec<u8>],
+    progress: &mut P,
 ) -> Result<Turns, NoMemory>
     requires { view.now.keyed_segment ≡ None }
 {
     let places = places_of(alloc, loops)?;
-    count_turns(alloc, view, &places, inputs)
+    count_turns(alloc, view, &places, inputs, progress)
 }
 
 // Adds the turns of a loop in so many runs.

@@ -3,7 +3,7 @@
 ghost use Rattle.std.specs.Prelude.{◌≡◌, IfOk};
 ghost use Rattle.loop_drafts.specs.Pieces.{BeginsWithReturns, printed, printed_piece, returns_line};
 
-use crate::draft::{Counter, Draft, Known, Place};
+use crate::draft::{Counter, Draft, Known, Place, Way};
 use crate::drafted::Piece;
 use crate::found::{AsidePart, FoundLoop, FoundLoops};
 use crate::remarks::Remarks;
@@ -97,16 +97,32 @@ fn push_counted(text: &mut String, place: Place) -> Result<(), AllocError> {
     }
 }
 
+// Adds what each turn does to what is counted in, and what that is at the header.
+fn push_way(text: &mut String, counter: Counter) -> Result<(), AllocError> {
+    let Counter { step, width, .. } = counter;
+    let bits = counter.bits();
+    match counter.way {
+        Way::Up => write!(
+            text,
+            " goes up by {step} or more each turn, and its values at the header span {width}"
+        ),
+        Way::Down => write!(
+            text,
+            " goes down by {step} or more each turn, and its values at the header span {width}"
+        ),
+        Way::Shorter => write!(
+            text,
+            " loses {step} or more bits each turn, and has at most {bits} at the header"
+        ),
+    }
+}
+
 // Adds the bound of a counter, and why it is one.
 fn push_bound(text: &mut String, counter: Counter) -> Result<(), AllocError> {
-    let Counter { step, width, .. } = counter;
-    let way = if counter.falls { "down" } else { "up" };
     let bound = counter.bound();
     push_counted(text, counter.place)?;
-    write!(
-        text,
-        " goes {way} by {step} or more each turn, and its values at the header span {width}\nbound = {bound}\n"
-    )
+    push_way(text, counter)?;
+    write!(text, "\nbound = {bound}\n")
 }
 
 // Adds that a loop is to be counted, where it is.

@@ -9,9 +9,11 @@ ghost use Rattle.pace_tool.specs.Drawn.{AreDrawn, DrawsRuns, file_texts, run_tex
 ghost use Rattle.pace_tool.specs.Told.{FileOf, written_view};
 ghost use Rattle.pace_tool.specs.Views as views;
 
+use crate::command::DrawRun;
 use crate::replies::stored_reply;
 use host_runs::Reply;
 use run_pictures::{DrawnFiles, draw_runs, picture_svg, picture_text};
+use run_progress::Progress;
 use scale_base::{NoMemory, Stop};
 use std::alloc::{AllocError, Global};
 
@@ -56,26 +58,31 @@ fn push_files<'a>(
 }
 
 // The picture of these runs, and what is told of them.
-fn drawn(alloc: Global, machine: &[u8], runs: &[DrawnFiles<'_>]) -> Result<(Vec<u8>, String), Stop>
+fn drawn<P: Progress>(
+    alloc: Global,
+    machine: &[u8],
+    runs: &[DrawnFiles<'_>],
+    progress: &mut P,
+) -> Result<(Vec<u8>, String), Stop>
     ensures { AnswersBy written_view result (FileOf (AreDrawn machine.now runs.now) texts.picture_text) }
 {
-    let picture = draw_runs(alloc, machine, runs)?;
+    let picture = draw_runs(alloc, machine, runs, progress)?;
     let file = picture_svg(alloc, &picture)?;
     let text = picture_text(alloc, &picture)?;
     Ok((file.into_bytes(), text))
 }
 
-/// What `draw run` gives for its machine file, and for the images and inputs of these names.
-pub fn draw_run_reply(
+/// What `draw run` gives for its machine file, and for the images and inputs whose names it has. How far it is is told.
+pub fn draw_run_reply<P: Progress>(
     alloc: Global,
-    out: &str,
+    draw: &DrawRun<'_>,
     machine: &[u8],
-    names: &[&str],
     files: &[Vec<u8>],
+    progress: &mut P,
 ) -> Result<Reply, NoMemory>
-    ensures { IfOk result (λ reply. Tells (DrawsRuns machine.now (views.texts names.now) (files_view files.now)) (stored_answer texts.picture_text out.now) (reply_view reply)) }
+    ensures { IfOk result (λ reply. Tells (DrawsRuns machine.now (views.texts draw.now.names.now) (files_view files.now)) (stored_answer texts.picture_text draw.now.out.now) (reply_view reply)) }
 {
     let mut runs = Vec::new(alloc);
-    push_files(&mut runs, names, files)?;
-    stored_reply(alloc, out, drawn(alloc, machine, &runs))
+    push_files(&mut runs, draw.names, files)?;
+    stored_reply(alloc, draw.out, drawn(alloc, machine, &runs, progress))
 }

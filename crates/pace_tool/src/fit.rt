@@ -15,9 +15,11 @@ ghost use Rattle.pace_tool.specs.Views.{fit_view};
 use crate::command::Fit;
 use crate::proposals::proposals_of;
 use crate::texts::fitted_text;
+use gain_tuner::GivenFiles;
 use host_runs::{ProgramFiles, Reply};
-use pace_fit::{Prepared, choose, prepare};
+use pace_fit::{Prepared, choose_with_progress, prepare_with_progress};
 use paced_images::Proposal;
+use run_progress::Progress;
 use scale_base::{NoMemory, Stop};
 use std::alloc::Global;
 
@@ -29,67 +31,88 @@ pub struct Inputs<'a> {
     ghost short: { All (λ input. length input.items ≤ 1048576) items.now },
 }
 
+/// What is to be fitted: the files of a program, the inputs, and the name under which the choice is stored.
+#[derive(Clone, Copy)]
+struct Order<'f, 'n> {
+    files: ProgramFiles<'f>,
+    inputs: Inputs<'f>,
+    out: &'n str,
+}
+
 // The choice among proposals, with its numbers and the name under which it is stored.
-fn chosen_of(
+fn chosen_of<P: Progress>(
     alloc: Global,
-    out: &str,
-    files: &ProgramFiles<'_>,
-    inputs: &Inputs<'_>,
+    order: &Order<'_, '_>,
     prepared: &Prepared,
     proposals: &[Proposal],
+    progress: &mut P,
 ) -> Result<Reply, NoMemory>
-    requires prepared { IsPrepared files.now.image.now files.now.machine.now files.now.loops.now (files_view inputs.now.items.now) prepared.now }
+    requires prepared { IsPrepared order.now.files.image.now order.now.files.machine.now order.now.files.loops.now (files_view order.now.inputs.items.now) prepared.now }
     requires proposals { length proposals.now ≤ 64 }
-    ensures { let endings = endings_on files.now.image.now files.now.machine.now files.now.loops.now (files_view inputs.now.items.now) in
-        IfOk result (λ reply. Tells (Fits files.now.image.now files.now.machine.now files.now.loops.now (files_view inputs.now.items.now) proposals.now) (stored_answer (texts.fitted_text endings proposals.now) out.now) (reply_view reply)) }
+    ensures { let endings = endings_on order.now.files.image.now order.now.files.machine.now order.now.files.loops.now (files_view order.now.inputs.items.now) in
+        IfOk result (λ reply. Tells (Fits order.now.files.image.now order.now.files.machine.now order.now.files.loops.now (files_view order.now.inputs.items.now) proposals.now) (stored_answer (texts.fitted_text endings proposals.now) order.now.out.now) (reply_view reply)) }
 {
-    let given = choose(
-        alloc,
-        files.image,
-        files.machine,
-        files.loops,
-        inputs.items,
-        prepared,
-        proposals,
-    )?;
+    let program = GivenFiles {
+        image: order.files.image,
+        machine: order.files.machine,
+        loops: order.files.loops,
+        inputs: order.inputs.items,
+    };
+    let given = choose_with_progress(alloc, &program, prepared, proposals, progress)?;
     let text = fitted_text(alloc, &prepared.endings, proposals, &given.1)?;
-    Reply::of_file(alloc, out, given.0, text, 0)
+    Reply::of_file(alloc, order.out, given.0, text, 0)
 }
 
 // What `fit` gives for a prepared program.
-fn prepared_reply(
+fn prepared_reply<P: Progress>(
     alloc: Global,
-    out: &str,
-    files: &ProgramFiles<'_>,
-    inputs: &Inputs<'_>,
+    order: &Order<'_, '_>,
     prepared: &Prepared,
+    progress: &mut P,
 ) -> Result<Reply, NoMemory>
-    requires { IsPrepared files.now.image.now files.now.machine.now files.now.loops.now (files_view inputs.now.items.now) prepared.now }
-    ensures { IfOk result (λ reply. MakesFit files.now.image.now files.now.machine.now files.now.loops.now (files_view inputs.now.items.now) out.now (reply_view reply)) }
+    requires { IsPrepared order.now.files.image.now order.now.files.machine.now order.now.files.loops.now (files_view order.now.inputs.items.now) prepared.now }
+    ensures { IfOk result (λ reply. MakesFit order.now.files.image.now order.now.files.machine.now order.now.files.loops.now (files_view order.now.inputs.items.now) order.now.out.now (reply_view reply)) }
 {
-    let proposals = proposals_of(alloc, files, inputs, &prepared.endings)?;
-    chosen_of(alloc, out, files, inputs, prepared, &proposals)
+    let proposals = proposals_of(alloc, &order.files, &order.inputs, &prepared.endings)?;
+    chosen_of(alloc, order, prepared, &proposals, progress)
 }
 
-/// What `fit` gives for its three files and its inputs.
-pub fn fit_reply(
+/// What `fit` gives for its three files and its inputs. How far it is is told.
+pub fn fit_reply<'f, P: Progress>(
     alloc: Global,
     out: &str,
-    files: &ProgramFiles<'_>,
-    inputs: &Inputs<'_>,
+    files: &ProgramFiles<'f>,
+    inputs: &Inputs<'f>,
+    progress: &mut P,
 ) -> Result<Reply, NoMemory>
     ensures { IfOk result (λ reply. MakesFit files.now.image.now files.now.machine.now files.now.loops.now (files_view inputs.now.items.now) out.now (reply_view reply)) }
 {
-    match prepare(alloc, files.image, files.machine, files.loops, inputs.items) {
-        Ok(prepared) => prepared_reply(alloc, out, files, inputs, &prepared),
+    let program = GivenFiles {
+        image: files.image,
+        machine: files.machine,
+        loops: files.loops,
+        inputs: inputs.items,
+    };
+    let order = Order {
+        files: *files,
+        inputs: *inputs,
+        out,
+    };
+    match prepare_with_progress(alloc, &program, progress) {
+        Ok(prepared) => prepared_reply(alloc, &order, &prepared, progress),
         Err(Stop::Refused(refusal)) => Reply::refused(alloc, &refusal),
         Err(Stop::Memory) => Err(NoMemory),
     }
 }
 
-/// What `fit` makes of the files that were loaded.
+/// What `fit` makes of the files that were loaded. How far it is is told.
 #[tactic(auto, using(host_runs::proofs::Laws::limits_alone))]
-pub fn fit_made(alloc: Global, command: &Fit<'_>, files: &[Vec<u8>]) -> Result<Reply, NoMemory>
+pub fn fit_made<P: Progress>(
+    alloc: Global,
+    command: &Fit<'_>,
+    files: &[Vec<u8>],
+    progress: &mut P,
+) -> Result<Reply, NoMemory>
     requires { AllZip (λ want file. length file ≤ want.1) (wants_of (fit_view command.now)) (files_view files.now) }
     ensures { IfOk result (λ reply. Makes (fit_view command.now) (files_view files.now) (reply_view reply)) }
 {
@@ -99,5 +122,6 @@ pub fn fit_made(alloc: Global, command: &Fit<'_>, files: &[Vec<u8>]) -> Result<R
         command.out,
         &ProgramFiles::of(first),
         &Inputs { items: given },
+        progress,
     )
 }

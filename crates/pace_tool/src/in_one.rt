@@ -16,6 +16,7 @@ use crate::plain::plain_image;
 use crate::texts::drafted_text;
 use host_runs::{ProgramFiles, Reply};
 use loop_drafts::{LoopDraft, Piece, draft_loops, printed_text};
+use run_progress::Progress;
 use scale_base::{NoMemory, Stop};
 use std::alloc::{AllocError, Global};
 
@@ -74,12 +75,13 @@ fn told_behind(mut text: String, reply: Reply) -> Result<Reply, NoMemory>
 }
 
 // The image fitted, with its draft as its loop file.
-fn fitted_reply(
+fn fitted_reply<P: Progress>(
     alloc: Global,
     goal: &Goal<'_, '_>,
     image: &[u8],
     file: &[u8],
     text: String,
+    progress: &mut P,
 ) -> Result<Reply, NoMemory>
     requires { length file.now ≤ 1048576 }
     ensures { IfOk result (λ reply. MakesFitted goal.now.machine.now goal.now.out.now (files_view goal.now.inputs.items.now) image.now file.now (string_bytes text) (reply_view reply)) }
@@ -92,17 +94,18 @@ fn fitted_reply(
         machine: goal.machine,
         loops: file,
     };
-    let reply = fit_reply(alloc, goal.out, &files, &goal.inputs)?;
+    let reply = fit_reply(alloc, goal.out, &files, &goal.inputs, progress)?;
     told_behind(text, reply)
 }
 
 // What is made of a draft of the image's loops.
-fn drafted_reply(
+fn drafted_reply<P: Progress>(
     alloc: Global,
     goal: &Goal<'_, '_>,
     image: &[u8],
     mut text: String,
     draft: &LoopDraft,
+    progress: &mut P,
 ) -> Result<Reply, NoMemory>
     requires { Drafts image.now (Ok (draft_view draft.now)) }
     ensures { IfOk result (λ reply. MakesDrafted goal.now.machine.now goal.now.out.now (files_view goal.now.inputs.items.now) image.now (string_bytes text) (Ok (draft_view draft.now)) (reply_view reply)) }
@@ -112,44 +115,51 @@ fn drafted_reply(
         return open_reply(alloc, text, draft);
     }
     let file = printed_text(alloc, &draft.pieces)?;
-    fitted_reply(alloc, goal, image, file.as_bytes(), text)
+    fitted_reply(alloc, goal, image, file.as_bytes(), text, progress)
 }
 
 // What is made of the image that goes on.
-fn plain_reply(
+fn plain_reply<P: Progress>(
     alloc: Global,
     goal: &Goal<'_, '_>,
     image: &[u8],
     text: String,
+    progress: &mut P,
 ) -> Result<Reply, NoMemory>
     ensures { IfOk result (λ reply. MakesOfPlain goal.now.machine.now goal.now.out.now (files_view goal.now.inputs.items.now) (Ok (image.now, string_bytes text)) (reply_view reply)) }
 {
-    match draft_loops(alloc, image, goal.inputs.items) {
-        Ok(draft) => drafted_reply(alloc, goal, image, text, &draft),
+    match draft_loops(alloc, image, goal.inputs.items, progress) {
+        Ok(draft) => drafted_reply(alloc, goal, image, text, &draft, progress),
         Err(Stop::Refused(refusal)) => Reply::refused(alloc, &refusal),
         Err(Stop::Memory) => Err(NoMemory),
     }
 }
 
 // What is made of an image.
-fn image_reply(alloc: Global, goal: &Goal<'_, '_>, image: &[u8]) -> Result<Reply, NoMemory>
+fn image_reply<P: Progress>(
+    alloc: Global,
+    goal: &Goal<'_, '_>,
+    image: &[u8],
+    progress: &mut P,
+) -> Result<Reply, NoMemory>
     requires { length image.now ≤ 4194304 }
     ensures { IfOk result (λ reply. MakesInOne image.now goal.now.machine.now (files_view goal.now.inputs.items.now) goal.now.out.now (reply_view reply)) }
 {
     match plain_image(alloc, image) {
-        Ok((plain, text)) => plain_reply(alloc, goal, &plain, text),
+        Ok((plain, text)) => plain_reply(alloc, goal, &plain, text, progress),
         Err(Stop::Refused(refusal)) => Reply::refused(alloc, &refusal),
         Err(Stop::Memory) => Err(NoMemory),
     }
 }
 
 // What is made of an image of bytes, for a machine and inputs.
-fn goal_reply(
+fn goal_reply<P: Progress>(
     alloc: Global,
     out: &str,
     image: &[u8],
     machine: &[u8],
     inputs: &Inputs<'_>,
+    progress: &mut P,
 ) -> Result<Reply, NoMemory>
     requires image { length image.now ≤ 4194304 }
     requires machine { length machine.now ≤ 1048576 }
@@ -161,15 +171,20 @@ fn goal_reply(
         inputs: *inputs,
         out,
     };
-    image_reply(alloc, &goal, image)
+    image_reply(alloc, &goal, image, progress)
 }
 
-/// What `all` makes of the files that were loaded.
-pub fn in_one_made(alloc: Global, command: &InOne<'_>, files: &[Vec<u8>]) -> Result<Reply, NoMemory>
+/// What `all` makes of the files that were loaded. How far it is is told.
+pub fn in_one_made<P: Progress>(
+    alloc: Global,
+    command: &InOne<'_>,
+    files: &[Vec<u8>],
+    progress: &mut P,
+) -> Result<Reply, NoMemory>
     requires { AllZip (λ want file. length file ≤ want.1) (wants_of (in_one_view command.now)) (files_view files.now) }
     ensures { IfOk result (λ reply. Makes (in_one_view command.now) (files_view files.now) (reply_view reply)) }
 {
     let (first, given) = files.split_at(2);
     let inputs = Inputs { items: given };
-    goal_reply(alloc, command.out, &first[0], &first[1], &inputs)
+    goal_reply(alloc, command.out, &first[0], &first[1], &inputs, progress)
 }

@@ -13,28 +13,35 @@ use crate::replies::stored_reply;
 use crate::texts::drafted_text;
 use host_runs::Reply;
 use loop_drafts::{draft_loops, printed_text};
+use run_progress::Progress;
 use scale_base::{NoMemory, Stop};
 use std::alloc::Global;
 
 // A draft: the file as it is printed, and what is told of it.
-fn drafted(alloc: Global, image: &[u8], inputs: &[Vec<u8>]) -> Result<(Vec<u8>, String), Stop>
+fn drafted<P: Progress>(
+    alloc: Global,
+    image: &[u8],
+    inputs: &[Vec<u8>],
+    progress: &mut P,
+) -> Result<(Vec<u8>, String), Stop>
     ensures { AnswersBy written_view result (FileOf (Drafts image.now) texts.drafted_text) }
 {
-    let draft = draft_loops(alloc, image, inputs)?;
+    let draft = draft_loops(alloc, image, inputs, progress)?;
     let file = printed_text(alloc, &draft.pieces)?;
     let text = drafted_text(alloc, &draft)?;
     Ok((file.into_bytes(), text))
 }
 
-/// What `loops` gives for its image: of the inputs only comments tell.
-pub fn loops_reply(
+/// What `loops` gives for its image: of the inputs only comments tell. How far it is is told.
+pub fn loops_reply<P: Progress>(
     alloc: Global,
     out: &str,
     image: &[u8],
     inputs: &[Vec<u8>],
+    progress: &mut P,
 ) -> Result<Reply, NoMemory>
     ensures bytes { AreBytes image.now }
     ensures told { IfOk result (λ reply. Tells (Drafts image.now) (stored_answer texts.drafted_text out.now) (reply_view reply)) }
 {
-    stored_reply(alloc, out, drafted(alloc, image, inputs))
+    stored_reply(alloc, out, drafted(alloc, image, inputs, progress))
 }

@@ -29,7 +29,8 @@ use command::{Job, loaded_name, stored_name};
 use host_files::RealHost;
 use host_runs::{NoWords, words_of};
 use naming_host::{Fault, NamingHost};
-use pace::run_pace;
+use pace::{run_pace, run_pace_with_progress};
+use progress_line::{ProgressLine, is_wanted};
 use std::alloc::Global;
 use std::process::ExitCode;
 use std::{env, io};
@@ -73,7 +74,12 @@ fn print_why(rt: &HostRuntime, command: &Job<'_>, status: u8, fault: Option<Faul
 
 fn run_command(rt: &HostRuntime, alloc: Global, command: &Job<'_>) -> u8 {
     let mut host = NamingHost::new(RealHost::new(rt));
-    let status = run_pace(&mut host, alloc, command);
+    let status = if is_wanted(rt, &rt.stderr()) {
+        let mut line = ProgressLine::new(rt, "pace");
+        run_pace_with_progress(&mut host, alloc, command, &mut line)
+    } else {
+        run_pace(&mut host, alloc, command)
+    };
     print_why(rt, command, status, host.fault);
     status
 }

@@ -17,32 +17,43 @@ use crate::jumps::jumps_reply;
 use crate::loops::loops_reply;
 use crate::show::show_reply;
 use host_runs::{ProgramFiles, Reply};
+use run_progress::Progress;
 use scale_base::NoMemory;
 use std::alloc::Global;
 
-/// What is made of the files that were loaded.
+/// What is made of the files that were loaded. How far it is is told.
 #[tactic(auto, using(host_runs::proofs::Laws::limits_alone))]
-fn made_of(alloc: Global, command: &Job<'_>, files: &[Vec<u8>]) -> Result<Reply, NoMemory>
+fn made_of<P: Progress>(
+    alloc: Global,
+    command: &Job<'_>,
+    files: &[Vec<u8>],
+    progress: &mut P,
+) -> Result<Reply, NoMemory>
     requires { AllZip (λ want file. length file ≤ want.1) (wants_of (command_view command.now)) (files_view files.now) }
     ensures { IfOk result (λ reply. Makes (command_view command.now) (files_view files.now) (reply_view reply)) }
 {
     match command {
-        Job::Fit(fit) => fit_made(alloc, fit, files),
+        Job::Fit(fit) => fit_made(alloc, fit, files, progress),
         Job::Show(_) => show_reply(alloc, &ProgramFiles::of(files)),
-        Job::Loops(loops) => loops_reply(alloc, loops.out, &files[0], &files[1..]),
+        Job::Loops(loops) => loops_reply(alloc, loops.out, &files[0], &files[1..], progress),
         Job::Explain(_) => explain_reply(alloc, &ProgramFiles::of(files)),
-        Job::DrawRun(draw) => draw_run_reply(alloc, draw.out, &files[0], draw.names, &files[1..]),
+        Job::DrawRun(draw) => draw_run_reply(alloc, draw, &files[0], &files[1..], progress),
         Job::DrawPlan(draw) => draw_plan_reply(alloc, draw.out, &ProgramFiles::of(files)),
         Job::Jumps(jumps) => jumps_reply(alloc, jumps.out, &files[0]),
-        Job::InOne(command) => in_one_made(alloc, command, files),
+        Job::InOne(command) => in_one_made(alloc, command, files, progress),
     }
 }
 
 /// The same, with a status that may be given.
-pub fn made(alloc: Global, command: &Job<'_>, files: &[Vec<u8>]) -> Result<Reply, NoMemory>
+pub fn made<P: Progress>(
+    alloc: Global,
+    command: &Job<'_>,
+    files: &[Vec<u8>],
+    progress: &mut P,
+) -> Result<Reply, NoMemory>
     requires { AllZip (λ want file. length file ≤ want.1) (wants_of (command_view command.now)) (files_view files.now) }
     ensures answer { IfOk result (λ reply. Makes (command_view command.now) (files_view files.now) (reply_view reply)) }
     ensures status { IfOk result (λ reply. IsTrue (may_give reply.status)) }
 {
-    made_of(alloc, command, files)
+    made_of(alloc, command, files, progress)
 }

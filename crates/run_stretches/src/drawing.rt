@@ -7,10 +7,10 @@ ghost use Rattle.run_stretches.specs.Stretches.{IsRunDrawn};
 
 use crate::bars::BarEnd;
 use crate::recording::Recorder;
-use elf_image::ImageView;
-use power_model::{Power, RunReport};
+use power_model::RunReport;
+use run_progress::Progress;
 use scale_base::NoMemory;
-use speed_sim::watched_report;
+use speed_sim::{ImageRun, watched_with_progress};
 use std::alloc::Global;
 
 /// A run: its report, and its bars.
@@ -20,22 +20,21 @@ pub struct RunBars {
     pub bars: Vec<BarEnd>,
 }
 
-/// The run of an image from a level, with an input: its report, and its stretches at one level as at most 512 bars. All the memory that
-/// the run needs is taken before its first step.
-pub fn draw_run(
+/// The run of an image with an input: its report, and its stretches at one level as at most 512 bars. All the memory that the run needs
+/// is taken before its first step. How far it is is told.
+pub fn draw_run<P: Progress>(
     alloc: Global,
-    view: &ImageView<'_>,
-    power: &Power,
-    start: u8,
+    given: &ImageRun<'_>,
     input: &[u8],
+    progress: &mut P,
 ) -> Result<RunBars, NoMemory>
-    requires start { start ≡ starting_level (length power.now.levels) view.now.keyed_segment }
-    requires is_level { start < length power.now.levels }
-    requires machine { IsPowerModel power.now }
-    ensures { IfOk result (IsRunDrawn power.now view.now input.now) }
+    requires start { given.now.start ≡ starting_level (length given.now.power.now.levels) given.now.view.now.keyed_segment }
+    requires is_level { given.now.start < length given.now.power.now.levels }
+    requires machine { IsPowerModel given.now.power.now }
+    ensures { IfOk result (IsRunDrawn given.now.power.now given.now.view.now input.now) }
 {
-    let mut recorder = Recorder::new(alloc, power, start)?;
-    let report = watched_report(alloc, view, power, start, input, &mut recorder)?;
+    let mut recorder = Recorder::new(alloc, given.power, given.start)?;
+    let report = watched_with_progress(alloc, given, input, &mut recorder, progress)?;
     let bars = recorder.finish(&report.meter);
     Ok(RunBars { report, bars })
 }

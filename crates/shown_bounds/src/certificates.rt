@@ -6,6 +6,7 @@ ghost use Rattle.shown_bounds.specs.Certified as certified;
 use crate::counters::StackCounter;
 use loop_file::LoopNote;
 use stack_tables::StackClaim;
+use turn_checks::TurnTable;
 
 /// Why a loop can't turn often: at its header the counter is at most `width`, and each turn raises it by `least` at least. By node: whether it
 /// is code of the loop, what its instruction adds and what those from the header up to it have added, modulo 2^32, and whether it may run
@@ -19,6 +20,8 @@ pub struct StackCertificate {
     pub adds: Vec<u32>,
     pub offset: Vec<u32>,
     pub quiet: Vec<bool>,
+    /// What each turn does, where that is why: then nothing stands beside nodes here.
+    pub turns: Option<TurnTable>,
 }
 
 /// A certificate for a noted loop of a program with its tables, and the number of the header's node.

@@ -6,7 +6,8 @@ ghost use Rattle.loop_file.specs.Kept.{note_at, noted_loops};
 ghost use Rattle.code_text.specs.Text.{text_of};
 ghost use Rattle.code_text.specs.TextGraph.{text_graph};
 ghost use Rattle.value_checks.specs.Tables.{values_of};
-ghost use Rattle.stack_laws.specs.Counting.{IsShown};
+ghost use Rattle.stack_laws.specs.Counting as counting;
+ghost use Rattle.turn_laws.specs.Relating.{IsShown};
 ghost use Rattle.stack_tables.specs.Tables.{stacks_of, IsStackClaim};
 ghost use Rattle.shown_bounds.specs.Certified.{AreEntries};
 
@@ -16,6 +17,7 @@ use crate::edges::is_certified;
 use flow_graph::CodeGraph;
 use loop_file::LoopNote;
 use stack_tables::StackClaim;
+use turn_checks::is_turn_shown;
 
 // Whether the least fits into the width no more often than the bound says.
 fn is_enough(note: &LoopNote, certificate: &StackCertificate) -> bool
@@ -38,11 +40,11 @@ fn has_entries(graph: &CodeGraph, certificate: &StackCertificate) -> bool
         && certificate.quiet.len() == nodes
 }
 
-/// Whether the code shows the bound of a loop's note, by a certificate and tables.
-pub fn is_shown(claim: &StackClaim<'_>, note: &LoopNote, certificate: &StackCertificate) -> bool
+// Whether it does so by a counter that goes on by a constant.
+fn is_counted(claim: &StackClaim<'_>, note: &LoopNote, certificate: &StackCertificate) -> bool
     requires { IsStackClaim claim.now }
     ensures { result ≡ true → (notes : List LoopNote) (k : ℕ) → note_at notes k ≡ note.now →
-        IsShown (text_of claim.now.view.now) (text_graph (text_of claim.now.view.now) claim.now.graph.now.code) (values_of claim.now.graph.now.code claim.now.table.now) (stacks_of claim.now.graph.now.code claim.now.stack.now) (noted_loops notes) k }
+        counting.IsShown (text_of claim.now.view.now) (text_graph (text_of claim.now.view.now) claim.now.graph.now.code) (values_of claim.now.graph.now.code claim.now.table.now) (stacks_of claim.now.graph.now.code claim.now.stack.now) (noted_loops notes) k }
 {
     let Some(header) = claim.graph.find(note.header) else {
         return false;
@@ -63,4 +65,16 @@ pub fn is_shown(claim: &StackClaim<'_>, note: &LoopNote, certificate: &StackCert
         return false;
     }
     is_within(claim, certificate.counter, header, certificate.width)
+}
+
+/// Whether the code shows the bound of a loop's note, by a certificate and tables.
+pub fn is_shown(claim: &StackClaim<'_>, note: &LoopNote, certificate: &StackCertificate) -> bool
+    requires { IsStackClaim claim.now }
+    ensures { result ≡ true → (notes : List LoopNote) (k : ℕ) → note_at notes k ≡ note.now →
+        IsShown (text_of claim.now.view.now) (text_graph (text_of claim.now.view.now) claim.now.graph.now.code) (values_of claim.now.graph.now.code claim.now.table.now) (stacks_of claim.now.graph.now.code claim.now.stack.now) (noted_loops notes) k }
+{
+    match &certificate.turns {
+        Some(table) => is_turn_shown(claim, note, table),
+        None => is_counted(claim, note, certificate),
+    }
 }

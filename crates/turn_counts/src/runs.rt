@@ -1,13 +1,14 @@
 //! The runs of an image on inputs.
 
-ghost use Rattle.std.specs.Prelude.{◌≡◌, None, length};
+ghost use Rattle.std.specs.Prelude.{◌≡◌, ◌<◌, None, length};
 ghost use Rattle.scale_base.specs.Run.{starting_level};
 
 use crate::counter::{LoopPlace, LoopTurns, TurnCounter};
 use elf_image::ImageView;
 use power_model::{Costs, Level, Levels, PairTable, Power, RunReport};
+use run_progress::{Part, Progress};
 use scale_base::{End, NoMemory, Trap};
-use speed_sim::watched_report;
+use speed_sim::{ImageRun, watched_with_progress};
 use std::alloc::Global;
 
 /// A run has no more steps.
@@ -77,37 +78,45 @@ fn ending_of(report: &RunReport, counter: &TurnCounter<'_>) -> Ending {
 }
 
 // Counts in the run on an input.
-fn count_run(
+fn count_run<P: Progress>(
     alloc: Global,
-    view: &ImageView<'_>,
-    power: &Power,
+    given: &ImageRun<'_>,
     input: &[u8],
     counter: &mut TurnCounter<'_>,
+    progress: &mut P,
 ) -> Result<Ending, NoMemory>
-    requires plain { view.now.keyed_segment ≡ None }
-    requires levels { length power.now.levels ≡ 1 }
+    requires start { given.now.start ≡ starting_level (length given.now.power.now.levels) given.now.view.now.keyed_segment }
+    requires is_level { given.now.start < length given.now.power.now.levels }
 {
-    counter.begin(view.entry());
-    let report = watched_report(alloc, view, power, 0, input, counter)?;
+    counter.begin(given.view.entry());
+    let report = watched_with_progress(alloc, given, input, counter, progress)?;
     counter.end();
     Ok(ending_of(&report, counter))
 }
 
 /// The turns of an image's loops, which ascend by their headers, in its runs on inputs, each of at most 10,000,000 steps. A return goes on from its call; a call is no
-/// turn. An entry that a run ends in has the turns that it took till then.
-pub fn count_turns(
+/// turn. An entry that a run ends in has the turns that it took till then. How far it is is told.
+pub fn count_turns<P: Progress>(
     alloc: Global,
     view: &ImageView<'_>,
     loops: &[LoopPlace<'_>],
     inputs: &[Vec<u8>],
+    progress: &mut P,
 ) -> Result<Turns, NoMemory>
     requires { view.now.keyed_segment ≡ None }
 {
     let power = plain_machine();
+    let given = ImageRun {
+        view,
+        power: &power,
+        start: 0,
+    };
     let mut counter = TurnCounter::new(alloc, loops)?;
     let mut endings = Vec::new(alloc);
+    progress.begin(Part::Input, inputs.len());
     for input in inputs {
-        endings.push(count_run(alloc, view, &power, input, &mut counter)?)?;
+        progress.next(Part::Input);
+        endings.push(count_run(alloc, &given, input, &mut counter, progress)?)?;
     }
     Ok(Turns {
         loops: counter.into_turns(),

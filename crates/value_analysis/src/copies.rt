@@ -7,7 +7,7 @@ use crate::program::Program;
 use crate::ways::WayKind;
 use scale_base::{ImmOp, Instr, NoMemory};
 use std::alloc::Global;
-use wrapped_intervals::keeps;
+use wrapped_intervals::{effect, keeps};
 
 /// How many nodes behind a copy are looked at.
 const MOST_NODES: usize = 48;
@@ -35,12 +35,22 @@ fn copy_of(i: Instr) -> Option<Copied> {
     }
 }
 
-/// The nodes behind a copy, as they are found, up to how many of them there is a test of the register that is copied, and of the copy.
+// Whether several ways lead to a node.
+fn is_join(program: &Program, k: usize) -> bool {
+    match program.last_way_to(k).and_then(|w| program.way(w)) {
+        Some(way) => way.beside.is_some(),
+        None => false,
+    }
+}
+
+/// The nodes behind a copy, as they are found, up to how many of them there is a test of the register that is copied, and of the copy; and whether ways have met,
+/// from where on neither register may be moved on: the distance of both would grow in a loop.
 #[derive(Drop)]
 struct Behind {
     nodes: Vec<usize>,
     tested_from: usize,
     tested_to: usize,
+    joined: bool,
 }
 
 impl Behind {
@@ -64,6 +74,14 @@ impl Behind {
         }
     }
 
+    // Whether an instruction makes something else of one of both registers, or moves it on where ways have met.
+    fn is_end(&self, i: Instr, copy: Copied) -> bool {
+        if keeps(copy.from, i) && keeps(copy.to, i) {
+            return false;
+        }
+        self.joined || effect(difference(copy.to, copy.from), i).is_none()
+    }
+
     // Looks at the node of a place.
     fn look_at(
         &mut self,
@@ -73,11 +91,15 @@ impl Behind {
         place: usize,
         number: usize,
     ) -> Result<(), NoMemory> {
-        let Some(node) = self.nodes.get(place).and_then(|k| program.node(*k)) else {
+        let Some(k) = self.nodes.get(place).copied() else {
+            return Ok(());
+        };
+        let Some(node) = program.node(k) else {
             return Ok(());
         };
         self.note_test(node.instr, copy, place);
-        if !keeps(copy.from, node.instr) || !keeps(copy.to, node.instr) {
+        self.joined = self.joined || is_join(program, k);
+        if self.is_end(node.instr, copy) {
             return Ok(());
         }
         for w in node.first..node.end {
@@ -127,6 +149,7 @@ fn add_copy(
         nodes: Vec::new(alloc),
         tested_from: 0,
         tested_to: 0,
+        joined: false,
     };
     behind.add(seen, k.saturating_add(1), number)?;
     for place in 0..MOST_NODES {

@@ -56,6 +56,21 @@ fn move_by(i: Instr, r: u8) -> Move {
     }
 }
 
+// By how much an instruction moves the register on that it writes, if none has moved it before.
+fn one_step(before: Move, i: Instr) -> Option<i32> {
+    match (before, i) {
+        (
+            Move::Kept,
+            Instr::Imm {
+                op: ImmOp::Addi,
+                imm,
+                ..
+            },
+        ) => Some(imm),
+        _ => None,
+    }
+}
+
 // Whether a node calls a function.
 fn is_call(program: &Program, node: &Node) -> bool {
     match program.way(node.first) {
@@ -70,6 +85,8 @@ struct Moving<'a> {
     program: &'a Program,
     header: usize,
     moves: [Move; 32],
+    /// By how much, where that is one number.
+    steps: [Option<i32>; 32],
     /// By node, the number of the last loop in whose body it is seen, and one more.
     inside: &'a [usize],
     number: usize,
@@ -84,6 +101,7 @@ impl Moving<'_> {
         for r in 1..32u8 {
             let place = usize::from(r);
             if !keeps(r, node.instr) {
+                self.steps[place] = one_step(self.moves[place], node.instr);
                 self.moves[place] = both(self.moves[place], move_by(node.instr, r));
             }
             if calls && !is_restorable(r) {
@@ -176,20 +194,39 @@ impl Moving<'_> {
         forms.want_from(self.program, j, self.header)
     }
 
+    fn step_of(&self, r: u8) -> Option<i32> {
+        self.steps.get(usize::from(r)).copied().flatten()
+    }
+
+    // Whether two registers keep their distance, or their sum: each turn moves them on by the same number, or one by as much as the other goes back.
+    fn are_beside(&self, one: u8, other: u8) -> bool {
+        match (self.step_of(one), self.step_of(other)) {
+            (Some(m), Some(n)) => m == n || m == n.wrapping_neg(),
+            _ => false,
+        }
+    }
+
+    // Whether one of two registers is moved on, and goes with the other, which is tested and is moved on too, or by way of another one.
+    fn goes_with(&self, moved: u8, tested: u8) -> bool {
+        match (self.move_of(moved), self.move_of(tested)) {
+            (Move::Rises | Move::Falls, Move::Lost) => true,
+            (Move::Rises | Move::Falls, _) => moved != tested && self.are_beside(moved, tested),
+            _ => false,
+        }
+    }
+
     // The same with each that is moved on.
     fn want_aside(&self, forms: &mut Forms, body: &[usize], tested: u8) -> Result<(), NoMemory> {
-        let way = self.moved_aside(body, tested);
-        if tested < 3
-            || self.move_of(tested) != Move::Lost
-            || way == Move::Kept
-            || way == Move::Lost
-        {
+        let way = match self.move_of(tested) {
+            Move::Lost => self.moved_aside(body, tested),
+            way => way,
+        };
+        if tested < 3 || way == Move::Kept || way == Move::Lost {
             return Ok(());
         }
         let mut found = 0;
         for r in 3..32u8 {
-            let moves = matches!(self.move_of(r), Move::Rises | Move::Falls);
-            if moves && found < MOST_BESIDE {
+            if found < MOST_BESIDE && self.goes_with(r, tested) {
                 found += 1;
                 self.want_beside(forms, r, tested, way)?;
             }
@@ -278,6 +315,7 @@ pub fn add_loops(
             program,
             header: tree.header(l),
             moves: [Move::Kept; 32],
+            steps: [None; 32],
             inside: &inside,
             number,
         };

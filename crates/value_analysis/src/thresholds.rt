@@ -7,8 +7,13 @@ use wrapped_intervals::Arc;
 /// How many thresholds a function has at most.
 const MOST_THRESHOLDS: usize = 4096;
 
-/// The longest interval whose ends are taken.
+/// The longest interval whose ends are both taken.
 const LONGEST: u64 = 65_536;
+
+/// The least signed number, and the greatest one.
+const LEAST: u64 = 0x8000_0000;
+
+const GREATEST: u64 = 0x7FFF_FFFF;
 
 /// A number with which a register is compared, and whether it was the one number of the other register then.
 #[derive(Clone, Copy, PartialEq, Eq, PartialOrd, Ord, Drop)]
@@ -69,19 +74,24 @@ fn word_of(n: u64) -> u32 {
     (n % WORDS) as u32
 }
 
-/// Adds the ends of an interval with which a register is compared. One that is long says nothing.
+/// Adds the ends of an interval with which a register is compared. A long one says something by its last number where it begins with the least signed number, and
+/// by its first one where it ends with the greatest.
 pub fn add_ends(
     thresholds: &mut Vec<Threshold>,
     register: u8,
     arc: Option<Arc>,
 ) -> Result<(), NoMemory> {
-    if let Some(arc) = arc {
-        if arc.more() <= LONGEST {
-            let exact = arc.more() == 0;
-            let last = arc.low().saturating_add(arc.more());
-            add_about(thresholds, register, word_of(arc.low()), exact)?;
-            add_about(thresholds, register, word_of(last), exact)?;
-        }
+    let Some(arc) = arc else {
+        return Ok(());
+    };
+    let exact = arc.more() == 0;
+    let last = arc.low().saturating_add(arc.more());
+    let short = arc.more() <= LONGEST;
+    if short || last % WORDS == GREATEST {
+        add_about(thresholds, register, word_of(arc.low()), exact)?;
+    }
+    if short || arc.low() == LEAST {
+        add_about(thresholds, register, word_of(last), exact)?;
     }
     Ok(())
 }

@@ -14,5 +14,5 @@ returns c =
       taken = subst (λ (n : ℕ). AreTaken c.args.sketch.now.graph.now c.args.wanted.now n) size
           (subst (λ (ns : List LoopNote). AreTaken c.args.sketch.now.graph.now ns c.len-aside.result) same c.in_ok-check_loops.ensures);
       countable = subst (λ (n : ℕ). AreCountable c.args.sketch.now.graph.now c.args.wanted.now n) size
-          (subst (λ (ns : List LoopNote). AreCountable c.args.sketch.now.graph.now ns c.len-aside.result) same c.in_ok-check_counts.ensures);
+          (subst (λ (ns : List LoopNote). AreCountable c.args.sketch.now.graph.now ns c.len-aside.result) same (c.in_ok-taken.ensures c.if-not-taken.false));
     }

@@ -11,10 +11,10 @@ use Rattle.pace_tool.proofs.Told.{stopped}
 use Rattle.pace_tool.proofs.draw_run.drawn.Goals as goal
 
 pub returns-in_err-picture : goal.returns-in_err-picture
-returns-in_err-picture c =
+returns-in_err-picture g c =
     let p = err_from_is_err_and c.from_residual.result c.from_residual.ensures.1 in
     rw (p.1, p.2) (stopped (λ (x : RunPicture). x) written_view c.in_err-picture.field-0.0 (AreRunsDrawn c.args.machine.now c.args.runs.now)
     (FileOf (AreDrawn c.args.machine.now c.args.runs.now) picture_text) c.in_err-picture.ensures (λ r h. h))
 
 pub returns : goal.returns
-returns c = (c.in_ok-picture.picture, (c.in_ok-picture.ensures, ap (λ (v : Vec ℕ Global). v.items) c.into_bytes.ensures.value ∙ c.in_ok-file.ensures), c.in_ok-text.ensures)
+returns g c = (c.in_ok-picture.picture, (c.in_ok-picture.ensures, ap (λ (v : Vec ℕ Global). v.items) c.into_bytes.ensures.value ∙ c.in_ok-file.ensures), c.in_ok-text.ensures)

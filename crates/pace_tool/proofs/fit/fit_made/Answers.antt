@@ -7,7 +7,7 @@ use Rattle.pace_tool.proofs.GivenInputs.{as_many, three_first}
 use Rattle.pace_tool.proofs.fit.fit_made.Goals as goal
 
 pub invariant_of-fit_reply : goal.invariant_of-fit_reply
-invariant_of-fit_reply c =
+invariant_of-fit_reply g c =
     let files : List (Vec ℕ Global) = c.args.files.now in
     let fit = c.args.command.now in
     let split = three_first (texts fit.inputs.names.now) (fit.program.image.now, 4194304) (fit.program.machine.now, 1048576) (fit.program.loops.now, 1048576) files c.requires in

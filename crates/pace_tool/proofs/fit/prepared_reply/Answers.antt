@@ -5,12 +5,12 @@ use Rattle.pace_tool.proofs.Given.{endings_count, of_some}
 use Rattle.pace_tool.proofs.fit.prepared_reply.Goals as goal
 
 pub proposals_of-requires : goal.proposals_of-requires
-proposals_of-requires c =
-    let files = c.args.files.now in
-    ap length c.deref.ensures.value ∙ endings_count files.image.now files.machine.now files.loops.now c.args.inputs.now.items.now c.args.prepared.now.endings.items c.requires.endings
+proposals_of-requires g c =
+    let files = c.args.order.now.files in
+    ap length c.deref.ensures.value ∙ endings_count files.image.now files.machine.now files.loops.now c.args.order.now.inputs.items.now c.args.prepared.now.endings.items c.requires.endings
 
 pub returns : goal.returns
-returns c =
-    let files = c.args.files.now in
-    of_some files.image.now files.machine.now files.loops.now (files_view c.args.inputs.now.items.now) c.args.out.now _ c.chosen_of.result
+returns g c =
+    let files = c.args.order.now.files in
+    of_some files.image.now files.machine.now files.loops.now (files_view c.args.order.now.inputs.items.now) c.args.order.now.out.now _ c.chosen_of.result
     (subst (λ (proposals : List Proposal). length proposals ≤ 64) (sym c.deref-2.ensures.value) c.in_ok-proposals.ensures) c.chosen_of.ensures

@@ -4,7 +4,7 @@ use Rattle.pace_tool.proofs.Drafted.{printed_short}
 use Rattle.pace_tool.proofs.in_one.drafted_reply.Goals as goal
 
 pub fitted_reply-requires : goal.fitted_reply-requires
-fitted_reply-requires c =
+fitted_reply-requires g c =
     let short = printed_short c.args.image.now c.args.draft.now c.requires.drafted in
     let size = ap length (c.as_bytes.ensures.value ∙ c.in_ok-file.ensures ∙ ap printed c.deref.ensures.value) in
     omega (arith, short, size)

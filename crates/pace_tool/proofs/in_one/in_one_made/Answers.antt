@@ -14,7 +14,7 @@ use Rattle.pace_tool.proofs.ToldInOne.{Replies, made_told}
 use Rattle.pace_tool.proofs.in_one.in_one_made.Goals as goal
 
 pub invariant_of-inputs : goal.invariant_of-inputs
-invariant_of-inputs c =
+invariant_of-inputs g c =
     let files : List (Vec ℕ Global) = c.args.files.now in
     let command = c.args.command.now in
     let split = two_first (texts command.inputs.names.now) (command.image.now, 4194304) (command.machine.now, 1048576) files c.requires in
@@ -26,19 +26,19 @@ invariant_of-inputs c =
     }
 
 pub goal_reply-requires-clause-image : goal.goal_reply-requires-clause-image
-goal_reply-requires-clause-image c =
+goal_reply-requires-clause-image g c =
     let command = c.args.command.now in
     let limits = two_limits (command.image.now, 4194304) (command.machine.now, 1048576) (input_wants (texts command.inputs.names.now)) c.args.files.now c.split_at.result.0.now c.index-first-0.result c.index-first-1.result c.requires c.split_at.ensures.front c.index-first-0.is c.index-first-1.is in
     subst (λ (bytes : List ℕ). length bytes ≤ 4194304) (sym c.deref.ensures.value) limits.0
 
 pub goal_reply-requires-clause-machine : goal.goal_reply-requires-clause-machine
-goal_reply-requires-clause-machine c =
+goal_reply-requires-clause-machine g c =
     let command = c.args.command.now in
     let limits = two_limits (command.image.now, 4194304) (command.machine.now, 1048576) (input_wants (texts command.inputs.names.now)) c.args.files.now c.split_at.result.0.now c.index-first-0.result c.index-first-1.result c.requires c.split_at.ensures.front c.index-first-0.is c.index-first-1.is in
     subst (λ (bytes : List ℕ). length bytes ≤ 1048576) (sym c.deref-2.ensures.value) limits.1
 
 pub returns : goal.returns
-returns c =
+returns g c =
     let command = c.args.command.now in
     let files : List (Vec ℕ Global) = c.args.files.now in
     let given : List (Vec ℕ Global) = c.split_at.result.1.now in

@@ -1,0 +1,124 @@
+-- What the code says of each edge and of the header is a certificate, and shows a bound.
+use Rattle.std.proofs.Common.{◌≡◌, ℕ, ◌<◌, ◌≤◌, true, Some, List, refl, sym, ap, ◌∙◌, subst}
+use Rattle.std.specs.Prelude.{◌/◌}
+use Rattle.scale_base.specs.declared.instruction.Instr.{Instr}
+use Rattle.loop_file.specs.declared.notes.LoopNote.{LoopNote}
+use Rattle.loop_file.specs.Kept.{note_at, noted_loops, in_extent}
+use Rattle.cost_theory.specs.Graph.{Graph}
+use Rattle.code_text.specs.Text.{Text, instr_at}
+use Rattle.code_text.specs.TextGraph.{text_graph}
+use Rattle.flow_graph.specs.FlowGraph.{graph}
+use Rattle.flow_graph.proofs.Laws.{some_is}
+use Rattle.bound_laws.specs.Turning.{Leads, Calls}
+use Rattle.bound_laws.specs.Values.{Values, Steps}
+use Rattle.stack_laws.specs.Stacks.{Stacks}
+use Rattle.stack_tables.specs.Tables.{address, claim_stacks, claim_text, claim_values, stacks_in, text_in, values_in}
+use Rattle.stack_tables.proofs.Laws.{address_is}
+use Rattle.turn_laws.specs.Relating.{IsTurnCertificate, IsTurnShown}
+use Rattle.turn_checks.specs.declared.tables.TurnCase.{TurnCase}
+use Rattle.turn_checks.specs.Turned.{cert, certificate_in, AreEdgesTurned, IsBackSo, IsCalledSo, IsEntrySo, IsHeaderSo, IsLedSo, IsLiveSo, IsSound, IsStepSo, IsTurnCase}
+
+entry_text : (c : TurnCase) → (text_in c.claim.now).entry ≡ c.claim.now.view.now.entry
+unfolding text_in
+entry_text c = refl
+
+certificate : (c : TurnCase) → IsTurnCase c → IsHeaderSo (values_in c.claim.now) (stacks_in c.claim.now) (cert c) (address c.claim.now c.header) → IsEntrySo c → AreEdgesTurned c →
+    IsTurnCertificate (text_in c.claim.now) (graph c.claim.now.graph.now) (values_in c.claim.now) (stacks_in c.claim.now) c.note.now.header (λ v. in_extent c.note.now v) (cert c)
+certificate c is head begun given = record {
+  first = header.first;
+  rows = header.rows;
+  owns = header.owns;
+  unused = header.unused;
+  started = header.started;
+  entered = λ a b leads live on other. (led a b leads live).entered other on;
+  called = λ a b call live on. (called a b call live).begins on;
+  entry = entry;
+  counts = λ a leads live inside. (led a h leads live).counted refl inside;
+  along = λ a b r i steps live inside on other at reg. ((step a b i steps live inside at).over other on).rows r reg;
+  along_own = λ a b i steps live inside on other at. ((step a b i steps live inside at).over other on).own;
+  along_used = λ a b i steps live inside on other at used. ((step a b i steps live inside at).over other on).used used;
+  back = λ a to b r call leads live inside on other reg. ((back a to b call leads live inside).back other on).rows r reg;
+  back_own = λ a to b call leads live inside on other. ((back a to b call leads live inside).back other on).own;
+  back_used = λ a to b call leads live inside on other used. ((back a to b call leads live inside).back other on).used used;
+  turns = λ a i steps live inside at. (step a h i steps live inside at).turn refl;
+  turns_back = λ a to call leads live inside. (back a to h call leads live inside).turn refl;
+  calls = λ a b call live inside. (called a b call live).quiet inside;
+  quiet_along = quiet_along;
+  quiet_calls = quiet_calls;
+  quiet_apart = header.quiet;
+}
+  where
+    t : Text
+    t = text_in c.claim.now
+
+    g : Graph
+    g = graph c.claim.now.graph.now
+
+    v : Values
+    v = values_in c.claim.now
+
+    w : Stacks
+    w = stacks_in c.claim.now
+
+    h : ℕ
+    h = c.note.now.header
+
+    header : IsHeaderSo v w (cert c) h
+    header = subst (λ (a : ℕ). IsHeaderSo v w (cert c) a) is.header_is head
+
+    alive : (e : ℕ) → e < g.edges → (a : ℕ) → g.source e ≡ a → v.live a ≡ true → IsLiveSo c g a e
+    alive e lt a source live = subst (λ (x : ℕ). IsLiveSo c g x e) source ((given e lt).live (ap v.live source ∙ live))
+
+    led : (a b : ℕ) → Leads g a b → v.live a ≡ true → IsLedSo (cert c) h (λ v. in_extent c.note.now v) a b
+    led a b (e, lt, source, target) live = (alive e lt a source live).led b target
+
+    called : (a b : ℕ) → Calls g a b → v.live a ≡ true → IsCalledSo (cert c) h a b
+    called a b (e, f, lt, source, callee, entry) live = subst (λ (y : ℕ). IsCalledSo (cert c) h a y) entry ((alive e lt a source live).called f callee)
+
+    step : (a b : ℕ) (i : Instr) → Steps g a b → v.live a ≡ true → (cert c).body a ≡ true → instr_at t a ≡ Some i → IsStepSo v w (cert c) h a i b
+    step a b i (e, lt, source, target, none) live inside at =
+        let found : (j : Instr) × (instr_at t a ≡ Some j) × IsSound c g a j e = (alive e lt a source live).sound inside in
+        subst (λ (j : Instr). IsStepSo v w (cert c) h a j b) (some_is found.0 i (sym found.1 ∙ at)) (found.2.step b target none)
+
+    back : (a to b : ℕ) → Calls g a to → Leads g a b → v.live a ≡ true → (cert c).body a ≡ true → IsBackSo t v w (cert c) h a to b
+    back a to b (d, f, dl, from, callee, entry) (e, el, source, target) live inside =
+        let called : g.callee e ≡ Some f = is.claim.graph_is.flow.program.one_callee e d el dl (source ∙ sym from) ∙ callee in
+        let found : (j : Instr) × (instr_at t a ≡ Some j) × IsSound c g a j e = (alive e el a source live).sound inside in
+        subst (λ (y : ℕ). IsBackSo t v w (cert c) h a y b) entry (found.2.back f b called target)
+
+    quiet_along : (a b : ℕ) → Leads g a b → (cert c).quiet a ≡ true → (cert c).quiet b ≡ true
+    quiet_along a b (e, lt, source, target) quiet = (given e lt).quiet_along b target (ap (cert c).quiet source ∙ quiet)
+
+    quiet_calls : (a b : ℕ) → Calls g a b → (cert c).quiet a ≡ true → (cert c).quiet b ≡ true
+    quiet_calls a b (e, f, lt, source, callee, entry) quiet = subst (λ (y : ℕ). (cert c).quiet y ≡ true) entry ((given e lt).quiet_calls f callee (ap (cert c).quiet source ∙ quiet))
+
+    entry : (cert c).body t.entry ≡ true → t.entry ≡ h
+    entry on =
+        let at : t.entry ≡ address c.claim.now begun.0 = entry_text c ∙ address_is c.claim.now begun.0 c.claim.now.view.now.entry begun.1 in
+        let same : begun.0 ≡ c.header = begun.2 (subst (λ (a : ℕ). (cert c).body a ≡ true) at on) in
+        at ∙ (ap (address c.claim.now) same ∙ is.header_is)
+
+shown_in : (c : TurnCase) → IsTurnCase c → IsHeaderSo (values_in c.claim.now) (stacks_in c.claim.now) (cert c) (address c.claim.now c.header) → IsEntrySo c → AreEdgesTurned c →
+    IsTurnCertificate (text_in c.claim.now) (text_graph (text_in c.claim.now) c.claim.now.graph.now.code) (values_in c.claim.now) (stacks_in c.claim.now) c.note.now.header (λ v. in_extent c.note.now v) (cert c)
+unfolding text_in
+shown_in c is head begun given = subst (λ (g : Graph). IsTurnCertificate (text_in c.claim.now) g (values_in c.claim.now) (stacks_in c.claim.now) c.note.now.header (λ v. in_extent c.note.now v) (cert c))
+    (sym is.claim.graph_is.graph_is) (certificate c is head begun given)
+
+positive_in : (c : TurnCase) → 0 < c.table.now.least → 0 < (cert c).least
+unfolding certificate_in
+positive_in c h = h
+
+enough_in : (c : TurnCase) (bound : ℕ) → c.table.now.width / c.table.now.least ≤ bound → (cert c).width / (cert c).least ≤ bound
+unfolding certificate_in
+enough_in c bound h = h
+
+pub shown : (c : TurnCase) → IsTurnCase c → IsHeaderSo (values_in c.claim.now) (stacks_in c.claim.now) (cert c) (address c.claim.now c.header) → IsEntrySo c →
+    (0 < c.table.now.least) × (c.table.now.width / c.table.now.least ≤ c.note.now.bound) → AreEdgesTurned c → (notes : List LoopNote) (k : ℕ) → note_at notes k ≡ c.note.now →
+    IsTurnShown (claim_text c.claim.now) (text_graph (claim_text c.claim.now) c.claim.now.graph.now.code) (claim_values c.claim.now) (claim_stacks c.claim.now) (noted_loops notes) k
+unfolding text_in values_in stacks_in
+shown c is head begun enough given notes k same = record {
+  certificate = cert c;
+  is = subst (λ (note : LoopNote). IsTurnCertificate (text_in c.claim.now) (text_graph (text_in c.claim.now) c.claim.now.graph.now.code) (values_in c.claim.now) (stacks_in c.claim.now) note.header (λ v. in_extent note v) (cert c)) (sym same) (shown_in c is head begun given);
+  positive = positive_in c enough.0;
+  enough = subst (λ (note : LoopNote). (cert c).width / (cert c).least ≤ note.bound) (sym same) (enough_in c c.note.now.bound enough.1);
+}

@@ -1,0 +1,327 @@
+//! What the code says of a table of turns, edge by edge.
+
+ghost use Rattle.std.specs.Prelude.{◌≡◌, ◌≢◌, ◌<◌, ℕ, None, Some, length, true};
+ghost use Rattle.bound_laws.specs.Values.{IsRegister};
+ghost use Rattle.code_text.specs.Text as text;
+ghost use Rattle.flow_graph.specs.FlowGraph.{graph};
+ghost use Rattle.loop_file.specs.Kept as extent;
+ghost use Rattle.scale_base.specs.declared.instruction.Instr.{Instr};
+ghost use Rattle.stack_tables.specs.Tables.{stacks_in, text_in, values_in};
+ghost use Rattle.turn_laws.specs.Relating as relating;
+ghost use Rattle.turn_checks.specs.Turned.{at_of, cert, place_view, AreBack, AreOver, IsBackSo, IsCalledSo, IsEdgeTurned, IsLedSo, IsLiveSo, IsSound, IsStepSo, IsTurnCase};
+
+use crate::backs::{is_own_back, is_row_back};
+use crate::ends::{is_turn_back, is_turn_over};
+use crate::made::{is_row_over, is_word_over};
+use crate::rows::{is_body, is_quiet, is_used, own_at, row_at};
+use crate::tables::{TurnCase, TurnPlace};
+use crate::using::is_used_over;
+use loop_file::in_extent;
+use scale_base::Instr;
+use stack_tables::{address, instruction, is_live};
+
+// Whether the relation of each register where the step leads is one behind the instruction.
+fn are_rows_over(case: &TurnCase<'_>, i: Instr, k: usize, n: usize) -> bool
+    requires case { IsTurnCase case.now }
+    requires from { k < length case.now.claim.now.graph.now.code.nodes }
+    requires to { n < length case.now.claim.now.graph.now.code.nodes }
+    ensures { result ≡ true → (r : ℕ) → IsRegister r → relating.IsRowOver (values_in case.now.claim.now) (stacks_in case.now.claim.now) (cert case.now) (at_of case.now k) i r ((cert case.now).row (at_of case.now n) r) }
+{
+    for r in 1..32u8 {
+        if !is_row_over(
+            case.claim,
+            case.table,
+            i,
+            k,
+            r,
+            row_at(case.claim, case.table, n, r),
+        ) {
+            return false;
+        }
+    }
+    true
+}
+
+// The same of a word that is counted in.
+fn is_own_over(case: &TurnCase<'_>, i: Instr, k: usize, n: usize) -> bool
+    requires case { IsTurnCase case.now }
+    requires from { k < length case.now.claim.now.graph.now.code.nodes }
+    requires to { n < length case.now.claim.now.graph.now.code.nodes }
+    ensures { result ≡ true → relating.IsOwnOver (values_in case.now.claim.now) (stacks_in case.now.claim.now) (cert case.now) (at_of case.now k) i (place_view case.now.table.now.place) ((cert case.now).own (at_of case.now n)) }
+{
+    match case.table.place {
+        TurnPlace::Register(_) => true,
+        TurnPlace::Word(word) => {
+            is_word_over(
+                case.claim,
+                case.table,
+                i,
+                k,
+                word,
+                own_at(case.claim, case.table, n),
+            )
+        }
+    }
+}
+
+// All of a step that leads elsewhere than to the header.
+fn are_over(case: &TurnCase<'_>, i: Instr, k: usize, n: usize) -> bool
+    requires case { IsTurnCase case.now }
+    requires from { k < length case.now.claim.now.graph.now.code.nodes }
+    requires to { n < length case.now.claim.now.graph.now.code.nodes }
+    ensures { result ≡ true → AreOver (values_in case.now.claim.now) (stacks_in case.now.claim.now) (cert case.now) (at_of case.now k) i (at_of case.now n) }
+{
+    if !are_rows_over(case, i, k, n) {
+        return false;
+    }
+    if !is_own_over(case, i, k, n) {
+        return false;
+    }
+    !is_used(case.claim, case.table, n) || is_used_over(case, i, k, n)
+}
+
+// A step within the body.
+fn is_step_so(case: &TurnCase<'_>, i: Instr, k: usize, n: usize) -> bool
+    requires case { IsTurnCase case.now }
+    requires from { k < length case.now.claim.now.graph.now.code.nodes }
+    requires to { n < length case.now.claim.now.graph.now.code.nodes }
+    ensures { result ≡ true → IsStepSo (values_in case.now.claim.now) (stacks_in case.now.claim.now) (cert case.now) case.now.note.now.header (at_of case.now k) i (at_of case.now n) }
+{
+    if n == case.header {
+        return is_turn_over(case, i, k);
+    }
+    !is_body(case.claim, case.table, n) || are_over(case, i, k, n)
+}
+
+// Whether the relation of each register is one behind the call of the function that begins at node h.
+fn are_rows_back(case: &TurnCase<'_>, i: Instr, k: usize, h: usize, n: usize) -> bool
+    requires case { IsTurnCase case.now }
+    requires from { k < length case.now.claim.now.graph.now.code.nodes }
+    requires entry { h < length case.now.claim.now.graph.now.code.nodes }
+    requires to { n < length case.now.claim.now.graph.now.code.nodes }
+    requires instruction { text.instr_at (text_in case.now.claim.now) (at_of case.now k) ≡ Some i }
+    ensures { result ≡ true → (r : ℕ) → IsRegister r → relating.IsRowBack (text_in case.now.claim.now) (values_in case.now.claim.now) (stacks_in case.now.claim.now) (cert case.now) (at_of case.now k) (at_of case.now h) r ((cert case.now).row (at_of case.now n) r) }
+{
+    for r in 1..32u8 {
+        if !is_row_back(case, i, k, h, r, row_at(case.claim, case.table, n, r)) {
+            return false;
+        }
+    }
+    true
+}
+
+// All of a call that comes back elsewhere than to the header.
+fn are_back(case: &TurnCase<'_>, i: Instr, k: usize, h: usize, n: usize) -> bool
+    requires case { IsTurnCase case.now }
+    requires from { k < length case.now.claim.now.graph.now.code.nodes }
+    requires entry { h < length case.now.claim.now.graph.now.code.nodes }
+    requires to { n < length case.now.claim.now.graph.now.code.nodes }
+    requires instruction { text.instr_at (text_in case.now.claim.now) (at_of case.now k) ≡ Some i }
+    ensures { result ≡ true → AreBack (text_in case.now.claim.now) (values_in case.now.claim.now) (stacks_in case.now.claim.now) (cert case.now) (at_of case.now k) (at_of case.now h) (at_of case.now n) }
+{
+    if !are_rows_back(case, i, k, h, n) {
+        return false;
+    }
+    if !is_own_back(case, k, h, own_at(case.claim, case.table, n)) {
+        return false;
+    }
+    !is_used(case.claim, case.table, n) || is_used(case.claim, case.table, k)
+}
+
+// A call within the body.
+fn is_back_so(case: &TurnCase<'_>, i: Instr, k: usize, h: usize, n: usize) -> bool
+    requires case { IsTurnCase case.now }
+    requires from { k < length case.now.claim.now.graph.now.code.nodes }
+    requires entry { h < length case.now.claim.now.graph.now.code.nodes }
+    requires to { n < length case.now.claim.now.graph.now.code.nodes }
+    requires instruction { text.instr_at (text_in case.now.claim.now) (at_of case.now k) ≡ Some i }
+    ensures { result ≡ true → IsBackSo (text_in case.now.claim.now) (values_in case.now.claim.now) (stacks_in case.now.claim.now) (cert case.now) case.now.note.now.header (at_of case.now k) (at_of case.now h) (at_of case.now n) }
+{
+    if n == case.header {
+        return is_turn_back(case, i, k, h);
+    }
+    !is_body(case.claim, case.table, n) || are_back(case, i, k, h, n)
+}
+
+// An edge from node k to node n.
+fn is_led_so(case: &TurnCase<'_>, k: usize, n: usize) -> bool
+    requires case { IsTurnCase case.now }
+    requires from { k < length case.now.claim.now.graph.now.code.nodes }
+    requires to { n < length case.now.claim.now.graph.now.code.nodes }
+    ensures { result ≡ true → IsLedSo (cert case.now) case.now.note.now.header (λ v. extent.in_extent case.now.note.now v) (at_of case.now k) (at_of case.now n) }
+{
+    if is_body(case.claim, case.table, k) {
+        return true;
+    }
+    if n == case.header {
+        return !in_extent(case.note, address(case.claim, k));
+    }
+    !is_body(case.claim, case.table, n)
+}
+
+// A call at node k of the function that begins at node h.
+fn is_called_so(case: &TurnCase<'_>, k: usize, h: usize) -> bool
+    requires case { IsTurnCase case.now }
+    requires from { k < length case.now.claim.now.graph.now.code.nodes }
+    requires entry { h < length case.now.claim.now.graph.now.code.nodes }
+    ensures { result ≡ true → IsCalledSo (cert case.now) case.now.note.now.header (at_of case.now k) (at_of case.now h) }
+{
+    if is_body(case.claim, case.table, h) && h != case.header {
+        return false;
+    }
+    !is_body(case.claim, case.table, k) || is_quiet(case.claim, case.table, h)
+}
+
+// Whether node n is quiet where node k is.
+fn is_quiet_on(case: &TurnCase<'_>, k: usize, n: usize) -> bool
+    requires case { IsTurnCase case.now }
+    requires from { k < length case.now.claim.now.graph.now.code.nodes }
+    requires to { n < length case.now.claim.now.graph.now.code.nodes }
+    ensures { result ≡ true → (cert case.now).quiet (at_of case.now k) ≡ true → (cert case.now).quiet (at_of case.now n) ≡ true }
+{
+    !is_quiet(case.claim, case.table, k) || is_quiet(case.claim, case.table, n)
+}
+
+// The same of an edge.
+fn is_quiet_along(case: &TurnCase<'_>, k: usize, e: usize) -> bool
+    requires case { IsTurnCase case.now }
+    requires node { k < length case.now.claim.now.graph.now.code.nodes }
+    requires edge { e < length case.now.claim.now.graph.now.code.edges }
+    ensures { result ≡ true → (b : ℕ) → (graph case.now.claim.now.graph.now).target e ≡ Some b → (cert case.now).quiet (at_of case.now k) ≡ true → (cert case.now).quiet b ≡ true }
+{
+    match case.claim.graph.target(e) {
+        Some(n) => is_quiet_on(case, k, n),
+        None => true,
+    }
+}
+
+// And of a call.
+fn is_quiet_called(case: &TurnCase<'_>, k: usize, e: usize) -> bool
+    requires case { IsTurnCase case.now }
+    requires node { k < length case.now.claim.now.graph.now.code.nodes }
+    requires edge { e < length case.now.claim.now.graph.now.code.edges }
+    ensures { result ≡ true → (f : ℕ) → (graph case.now.claim.now.graph.now).callee e ≡ Some f → (cert case.now).quiet (at_of case.now k) ≡ true → (cert case.now).quiet ((graph case.now.claim.now.graph.now).entry f) ≡ true }
+{
+    match case.claim.graph.callee(e) {
+        Some(f) => is_quiet_on(case, k, case.claim.graph.entry_node(f)),
+        None => true,
+    }
+}
+
+// Where an edge leads.
+fn leads_so(case: &TurnCase<'_>, k: usize, e: usize) -> bool
+    requires case { IsTurnCase case.now }
+    requires node { k < length case.now.claim.now.graph.now.code.nodes }
+    requires edge { e < length case.now.claim.now.graph.now.code.edges }
+    ensures { result ≡ true → (b : ℕ) → (graph case.now.claim.now.graph.now).target e ≡ Some b → IsLedSo (cert case.now) case.now.note.now.header (λ v. extent.in_extent case.now.note.now v) (at_of case.now k) b }
+{
+    match case.claim.graph.target(e) {
+        Some(n) => is_led_so(case, k, n),
+        None => true,
+    }
+}
+
+// What it calls.
+fn calls_so(case: &TurnCase<'_>, k: usize, e: usize) -> bool
+    requires case { IsTurnCase case.now }
+    requires node { k < length case.now.claim.now.graph.now.code.nodes }
+    requires edge { e < length case.now.claim.now.graph.now.code.edges }
+    ensures { result ≡ true → (f : ℕ) → (graph case.now.claim.now.graph.now).callee e ≡ Some f → IsCalledSo (cert case.now) case.now.note.now.header (at_of case.now k) ((graph case.now.claim.now.graph.now).entry f) }
+{
+    match case.claim.graph.callee(e) {
+        Some(f) => is_called_so(case, k, case.claim.graph.entry_node(f)),
+        None => true,
+    }
+}
+
+// What a step of the body does.
+fn steps_so(case: &TurnCase<'_>, i: Instr, k: usize, e: usize) -> bool
+    requires case { IsTurnCase case.now }
+    requires node { k < length case.now.claim.now.graph.now.code.nodes }
+    requires edge { e < length case.now.claim.now.graph.now.code.edges }
+    ensures { result ≡ true → (b : ℕ) → (graph case.now.claim.now.graph.now).target e ≡ Some b → (graph case.now.claim.now.graph.now).callee e ≡ None →
+        IsStepSo (values_in case.now.claim.now) (stacks_in case.now.claim.now) (cert case.now) case.now.note.now.header (at_of case.now k) i b }
+{
+    match (case.claim.graph.callee(e), case.claim.graph.target(e)) {
+        (None, Some(n)) => is_step_so(case, i, k, n),
+        _ => true,
+    }
+}
+
+// And what a call of it does.
+fn comes_back_so(case: &TurnCase<'_>, i: Instr, k: usize, e: usize) -> bool
+    requires case { IsTurnCase case.now }
+    requires node { k < length case.now.claim.now.graph.now.code.nodes }
+    requires edge { e < length case.now.claim.now.graph.now.code.edges }
+    requires instruction { text.instr_at (text_in case.now.claim.now) (at_of case.now k) ≡ Some i }
+    ensures { result ≡ true → (f b : ℕ) → (graph case.now.claim.now.graph.now).callee e ≡ Some f → (graph case.now.claim.now.graph.now).target e ≡ Some b →
+        IsBackSo (text_in case.now.claim.now) (values_in case.now.claim.now) (stacks_in case.now.claim.now) (cert case.now) case.now.note.now.header (at_of case.now k) ((graph case.now.claim.now.graph.now).entry f) b }
+{
+    match (case.claim.graph.callee(e), case.claim.graph.target(e)) {
+        (Some(f), Some(n)) => is_back_so(case, i, k, case.claim.graph.entry_node(f), n),
+        _ => true,
+    }
+}
+
+// Both, of an instruction.
+fn is_sound(case: &TurnCase<'_>, i: Instr, k: usize, e: usize) -> bool
+    requires case { IsTurnCase case.now }
+    requires node { k < length case.now.claim.now.graph.now.code.nodes }
+    requires edge { e < length case.now.claim.now.graph.now.code.edges }
+    requires instruction { text.instr_at (text_in case.now.claim.now) (at_of case.now k) ≡ Some i }
+    ensures { result ≡ true → IsSound case.now (graph case.now.claim.now.graph.now) (at_of case.now k) i e }
+{
+    if !steps_so(case, i, k, e) {
+        return false;
+    }
+    comes_back_so(case, i, k, e)
+}
+
+// Both, within the body.
+fn is_sound_or_outside(case: &TurnCase<'_>, k: usize, e: usize) -> bool
+    requires case { IsTurnCase case.now }
+    requires node { k < length case.now.claim.now.graph.now.code.nodes }
+    requires edge { e < length case.now.claim.now.graph.now.code.edges }
+    ensures { result ≡ true → (cert case.now).body (at_of case.now k) ≡ true → (i : Instr) × (text.instr_at (text_in case.now.claim.now) (at_of case.now k) ≡ Some i) × IsSound case.now (graph case.now.claim.now.graph.now) (at_of case.now k) i e }
+{
+    if is_body(case.claim, case.table, k) {
+        match instruction(case.claim, k) {
+            Some(i) => is_sound(case, i, k, e),
+            None => false,
+        }
+    } else {
+        true
+    }
+}
+
+// All of an edge to whose source a run may come.
+fn is_live_so(case: &TurnCase<'_>, k: usize, e: usize) -> bool
+    requires case { IsTurnCase case.now }
+    requires node { k < length case.now.claim.now.graph.now.code.nodes }
+    requires edge { e < length case.now.claim.now.graph.now.code.edges }
+    ensures { result ≡ true → IsLiveSo case.now (graph case.now.claim.now.graph.now) (at_of case.now k) e }
+{
+    if !leads_so(case, k, e) {
+        return false;
+    }
+    if !calls_so(case, k, e) {
+        return false;
+    }
+    is_sound_or_outside(case, k, e)
+}
+
+/// All of an edge.
+pub fn is_edge_turned(case: &TurnCase<'_>, e: usize) -> bool
+    requires case { IsTurnCase case.now }
+    requires edge { e < length case.now.claim.now.graph.now.code.edges }
+    ensures { result ≡ true → IsEdgeTurned case.now (graph case.now.claim.now.graph.now) e }
+{
+    let k = case.claim.graph.source(e);
+    if !is_quiet_along(case, k, e) {
+        return false;
+    }
+    if !is_quiet_called(case, k, e) {
+        return false;
+    }
+    !is_live(case.claim, k) || is_live_so(case, k, e)
+}

@@ -1,0 +1,16 @@
+//! Tables of what each turn of a loop makes of a register or of a word of the stack, which the code confirms edge by edge, as `turn_laws` says
+//! certificates.
+#![tactic(auto)]
+
+mod backs;
+mod edges;
+mod ends;
+mod made;
+mod relations;
+mod rows;
+mod shown;
+mod tables;
+mod using;
+
+pub use shown::is_turn_shown;
+pub use tables::{Relation, TurnCase, TurnKind, TurnPlace, TurnTable};

@@ -1,0 +1,313 @@
+//! What an instruction of a loop leaves of relations.
+
+ghost use Rattle.std.specs.Prelude.{◌≡◌, ◌<◌, ◌&&◌, is_some, true, length};
+ghost use Rattle.bound_laws.specs.Values as values;
+ghost use Rattle.stack_tables.specs.Tables.{IsStackClaim, address, stacks_in, values_in};
+ghost use Rattle.stack_laws.specs.Stacks as stacks;
+ghost use Rattle.turn_laws.specs.Relating as relating;
+ghost use Rattle.turn_checks.specs.Turned.{AreTurns, certificate_in, relation_view};
+
+use crate::relations::{
+    is_divided, is_low, is_lowered, is_moved_back, is_moved_by_arc, is_moved_by_number, is_weaker,
+    least_of,
+};
+use crate::rows::{own_at, relation_at, row_at};
+use crate::tables::{Relation, TurnPlace, TurnTable};
+use scale_base::{ImmOp, Instr, RegOp};
+use stack_tables::{StackClaim, held_at, is_missed, loaded_to, stored_from};
+use wrapped_intervals::keeps;
+
+// Whether a relation says nothing.
+fn is_unknown(b: Relation) -> bool
+    ensures { result ≡ true → (q : relating.Relation) → relating.IsWeaker (relation_view b) q }
+{
+    matches!(&b, Relation::Unknown)
+}
+
+// Whether both registers have intervals.
+fn are_words(claim: &StackClaim<'_>, k: usize, rs1: u8, rs2: u8) -> bool
+    requires claim { IsStackClaim claim.now }
+    requires node { k < length claim.now.graph.now.code.nodes }
+    ensures { result ≡ (is_some (values.held ((values_in claim.now).at (address claim.now k)) rs1) && is_some (values.held ((values_in claim.now).at (address claim.now k)) rs2)) }
+{
+    held_at(claim, k, rs1).is_some() && held_at(claim, k, rs2).is_some()
+}
+
+// Whether an operation with a number leaves in its register what has a relation.
+fn is_made_by_number(
+    claim: &StackClaim<'_>,
+    table: &TurnTable,
+    i: Instr,
+    k: usize,
+    b: Relation,
+) -> bool
+    requires claim { IsStackClaim claim.now }
+    requires node { k < length claim.now.graph.now.code.nodes }
+    requires sized { AreTurns claim.now.graph.now.code.nodes table.now }
+    ensures { result ≡ true → relating.IsWeaker (relation_view b) (relating.made i (relating.row_of (certificate_in claim.now table.now) (address claim.now k)) ((values_in claim.now).at (address claim.now k))) }
+{
+    match i {
+        Instr::Imm {
+            op: ImmOp::Addi,
+            rd: _,
+            rs1,
+            imm,
+        } => is_moved_by_number(b, relation_at(claim, table, k, rs1), imm.cast_unsigned()),
+        Instr::Imm {
+            op: ImmOp::Andi,
+            rd: _,
+            rs1,
+            imm: _,
+        } => is_lowered(
+            b,
+            relation_at(claim, table, k, rs1),
+            0,
+            held_at(claim, k, rs1).is_some(),
+        ),
+        Instr::Imm {
+            op: ImmOp::Srli,
+            rd: _,
+            rs1,
+            imm,
+        } => is_divided(
+            b,
+            relation_at(claim, table, k, rs1),
+            imm.cast_unsigned() % 32,
+            held_at(claim, k, rs1).is_some(),
+        ),
+        Instr::Imm {
+            op: ImmOp::Srai,
+            rd: _,
+            rs1,
+            imm,
+        } => is_divided(
+            b,
+            relation_at(claim, table, k, rs1),
+            imm.cast_unsigned() % 32,
+            is_low(held_at(claim, k, rs1)),
+        ),
+        _ => is_unknown(b),
+    }
+}
+
+// The same of an operation with a second register.
+fn is_made_by_register(
+    claim: &StackClaim<'_>,
+    table: &TurnTable,
+    i: Instr,
+    k: usize,
+    b: Relation,
+) -> bool
+    requires claim { IsStackClaim claim.now }
+    requires node { k < length claim.now.graph.now.code.nodes }
+    requires sized { AreTurns claim.now.graph.now.code.nodes table.now }
+    ensures { result ≡ true → relating.IsWeaker (relation_view b) (relating.made i (relating.row_of (certificate_in claim.now table.now) (address claim.now k)) ((values_in claim.now).at (address claim.now k))) }
+{
+    match i {
+        Instr::Reg {
+            op: RegOp::Add,
+            rd: _,
+            rs1,
+            rs2,
+        } => is_moved_by_arc(b, relation_at(claim, table, k, rs1), held_at(claim, k, rs2)),
+        Instr::Reg {
+            op: RegOp::Sub,
+            rd: _,
+            rs1,
+            rs2,
+        } => is_moved_back(b, relation_at(claim, table, k, rs1), held_at(claim, k, rs2)),
+        Instr::Reg {
+            op: RegOp::Mulhu,
+            rd: _,
+            rs1,
+            rs2,
+        } => is_divided(
+            b,
+            relation_at(claim, table, k, rs1),
+            0,
+            are_words(claim, k, rs1, rs2),
+        ),
+        Instr::Reg {
+            op: RegOp::Divu,
+            rd: _,
+            rs1,
+            rs2,
+        } => is_divided(
+            b,
+            relation_at(claim, table, k, rs1),
+            1,
+            held_at(claim, k, rs1).is_some() && 1 < least_of(held_at(claim, k, rs2)),
+        ),
+        Instr::Reg {
+            op: RegOp::Remu,
+            rd: _,
+            rs1: _,
+            rs2,
+        } => is_lowered(
+            b,
+            relation_at(claim, table, k, rs2),
+            1,
+            held_at(claim, k, rs2).is_some() && 0 < least_of(held_at(claim, k, rs2)),
+        ),
+        _ => is_unknown(b),
+    }
+}
+
+// The same with the registers exchanged.
+fn is_made_too(claim: &StackClaim<'_>, table: &TurnTable, i: Instr, k: usize, b: Relation) -> bool
+    requires claim { IsStackClaim claim.now }
+    requires node { k < length claim.now.graph.now.code.nodes }
+    requires sized { AreTurns claim.now.graph.now.code.nodes table.now }
+    ensures { result ≡ true → relating.IsWeaker (relation_view b) (relating.made_too i (relating.row_of (certificate_in claim.now table.now) (address claim.now k)) ((values_in claim.now).at (address claim.now k))) }
+{
+    match i {
+        Instr::Reg {
+            op: RegOp::Add,
+            rd: _,
+            rs1,
+            rs2,
+        } => is_moved_by_arc(b, relation_at(claim, table, k, rs2), held_at(claim, k, rs1)),
+        Instr::Reg {
+            op: RegOp::Mulhu,
+            rd: _,
+            rs1,
+            rs2,
+        } => is_divided(
+            b,
+            relation_at(claim, table, k, rs2),
+            0,
+            are_words(claim, k, rs1, rs2),
+        ),
+        _ => is_unknown(b),
+    }
+}
+
+// Whether the instruction writes a register, of what has such a relation.
+fn is_made_over(
+    claim: &StackClaim<'_>,
+    table: &TurnTable,
+    i: Instr,
+    k: usize,
+    r: u8,
+    b: Relation,
+) -> bool
+    requires claim { IsStackClaim claim.now }
+    requires node { k < length claim.now.graph.now.code.nodes }
+    requires sized { AreTurns claim.now.graph.now.code.nodes table.now }
+    ensures { result ≡ true → relating.IsMadeOver (values_in claim.now) (certificate_in claim.now table.now) (address claim.now k) i r (relation_view b) }
+{
+    if keeps(r, i) {
+        return false;
+    }
+    is_made_by_number(claim, table, i, k, b)
+        || is_made_by_register(claim, table, i, k, b)
+        || is_made_too(claim, table, i, k, b)
+}
+
+// Whether a word is loaded to a register.
+fn is_loaded_as(
+    claim: &StackClaim<'_>,
+    table: &TurnTable,
+    i: Instr,
+    k: usize,
+    word: u32,
+    r: u8,
+    b: Relation,
+) -> bool
+    requires claim { IsStackClaim claim.now }
+    requires node { k < length claim.now.graph.now.code.nodes }
+    requires sized { AreTurns claim.now.graph.now.code.nodes table.now }
+    ensures { result ≡ true → stacks.IsLoadedTo (stacks_in claim.now) (address claim.now k) i word r × relating.IsWeaker (relation_view b) ((certificate_in claim.now table.now).own (address claim.now k)) }
+{
+    match loaded_to(claim, i, k) {
+        Some((number, register)) => {
+            number == word && register == r && is_weaker(b, own_at(claim, table, k))
+        }
+        None => false,
+    }
+}
+
+// Whether the word that is counted in is loaded.
+fn is_loaded_own(
+    claim: &StackClaim<'_>,
+    table: &TurnTable,
+    i: Instr,
+    k: usize,
+    r: u8,
+    b: Relation,
+) -> bool
+    requires claim { IsStackClaim claim.now }
+    requires node { k < length claim.now.graph.now.code.nodes }
+    requires sized { AreTurns claim.now.graph.now.code.nodes table.now }
+    ensures { result ≡ true → relating.IsLoadedOwn (stacks_in claim.now) (certificate_in claim.now table.now) (address claim.now k) i r (relation_view b) }
+{
+    match table.place {
+        TurnPlace::Word(word) => is_loaded_as(claim, table, i, k, word, r, b),
+        TurnPlace::Register(_) => false,
+    }
+}
+
+/// Whether a relation is one of a register behind the instruction of node k.
+pub fn is_row_over(
+    claim: &StackClaim<'_>,
+    table: &TurnTable,
+    i: Instr,
+    k: usize,
+    r: u8,
+    b: Relation,
+) -> bool
+    requires claim { IsStackClaim claim.now }
+    requires node { k < length claim.now.graph.now.code.nodes }
+    requires sized { AreTurns claim.now.graph.now.code.nodes table.now }
+    ensures { result ≡ true → relating.IsRowOver (values_in claim.now) (stacks_in claim.now) (certificate_in claim.now table.now) (address claim.now k) i r (relation_view b) }
+{
+    if is_unknown(b) {
+        return true;
+    }
+    if keeps(r, i) {
+        return is_weaker(b, row_at(claim, table, k, r));
+    }
+    is_made_over(claim, table, i, k, r, b) || is_loaded_own(claim, table, i, k, r, b)
+}
+
+// Whether a register is stored to the word.
+fn is_stored_own(
+    claim: &StackClaim<'_>,
+    table: &TurnTable,
+    i: Instr,
+    k: usize,
+    word: u32,
+    b: Relation,
+) -> bool
+    requires claim { IsStackClaim claim.now }
+    requires node { k < length claim.now.graph.now.code.nodes }
+    requires sized { AreTurns claim.now.graph.now.code.nodes table.now }
+    ensures { result ≡ true → relating.IsWordOver (values_in claim.now) (stacks_in claim.now) (certificate_in claim.now table.now) (address claim.now k) i word (relation_view b) }
+{
+    match stored_from(claim, i, k) {
+        Some((number, register)) => {
+            number == word && is_weaker(b, relation_at(claim, table, k, register))
+        }
+        None => false,
+    }
+}
+
+/// Whether a relation is one of a word of the stack behind the instruction of node k.
+pub fn is_word_over(
+    claim: &StackClaim<'_>,
+    table: &TurnTable,
+    i: Instr,
+    k: usize,
+    word: u32,
+    b: Relation,
+) -> bool
+    requires claim { IsStackClaim claim.now }
+    requires node { k < length claim.now.graph.now.code.nodes }
+    requires sized { AreTurns claim.now.graph.now.code.nodes table.now }
+    ensures { result ≡ true → relating.IsWordOver (values_in claim.now) (stacks_in claim.now) (certificate_in claim.now table.now) (address claim.now k) i word (relation_view b) }
+{
+    if is_weaker(b, own_at(claim, table, k)) && is_missed(claim, i, k, word) {
+        return true;
+    }
+    is_stored_own(claim, table, i, k, word, b)
+}

@@ -1,0 +1,57 @@
+//! What each turn of a loop makes of a register or a word of the stack, as a table.
+
+use loop_file::LoopNote;
+use stack_tables::StackClaim;
+
+/// What is known of a value by the number that stood in the counted place when the header was last come to: nothing; that it is more by a
+/// number of the interval from the first on, with so many more, modulo 2^32; or that it, and so much more, is at most that number shifted
+/// to the right so many times.
+#[derive(Clone, Copy)]
+pub enum Relation {
+    Unknown,
+    Ahead(u32, u32),
+    Below(u32, u32),
+}
+
+/// What is counted in: a register, or a word of the stack by its number.
+#[derive(Clone, Copy)]
+pub enum TurnPlace {
+    Register(u8),
+    Word(u32),
+}
+
+/// How turns are counted: each moves a multiple of the number and a shift on, takes something away from the number, or halves it, where it
+/// has at most so many bits.
+#[derive(Clone, Copy)]
+pub enum TurnKind {
+    Moves(u32, u32),
+    Lowers,
+    Halves(u32),
+}
+
+/// Why a loop can't turn often: so many times the least is at most the width. By node: whether it is code of the loop; the relations of the
+/// registers, 32 of them, or none where nothing is known; that of the word that is counted in; whether the number at the header was not 0
+/// where it stands; and whether it may run while a call from the loop is open.
+#[derive(Drop)]
+pub struct TurnTable {
+    pub place: TurnPlace,
+    pub kind: TurnKind,
+    pub width: u32,
+    pub least: u32,
+    /// What is so of what is counted in at the end of each turn.
+    pub end: Relation,
+    pub body: Vec<bool>,
+    pub rows: Vec<Vec<Relation>>,
+    pub own: Vec<Relation>,
+    pub used: Vec<bool>,
+    pub quiet: Vec<bool>,
+}
+
+/// A table for a noted loop of a program with its tables, and the number of the header's node.
+#[derive(Clone, Copy)]
+pub struct TurnCase<'a> {
+    pub claim: &'a StackClaim<'a>,
+    pub note: &'a LoopNote,
+    pub header: usize,
+    pub table: &'a TurnTable,
+}

@@ -1,0 +1,7 @@
+mod Relations
+mod Facts
+mod Turns
+mod Steps
+mod Counts
+mod Bounds
+pub mod Laws

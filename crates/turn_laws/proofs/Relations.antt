@@ -1,0 +1,174 @@
+-- What instructions make of relations.
+use Rattle.std.proofs.Common.{◌≡◌, ℕ, ◌+◌, ◌-◌, ◌*◌, ◌/◌, ◌<◌, ◌≤◌, ◌%◌, ◌^◌, Bool, true, sym, ap, ◌∙◌, subst, arith, Option, Some, None}
+use Rattle.std.specs.Prelude.{pos, ◌==◌, nat_lt, is_some, bit_and, if◌then◌else◌}
+use Rattle.std.specs.Int.{w32, int_shr}
+use Rattle.std.proofs.lemmas.Int.{to_z_pos}
+use Rattle.std.proofs.lemmas.Bool.{cond_both, ltb-true, eqb-true}
+use Rattle.std.proofs.lemmas.Nat.{and_le_l, le-div, pow_pos, pow-add}
+use Rattle.std.proofs.Math.Nat.{div-mul-le_self, div-le_of_le-mul, mul-le-mul_left, mul-le-mul_right, mul_comm, mul_assoc, mod-le, mod-lt, mod-eq_of_lt, pow-le-pow_right}
+use Rattle.scale_base.specs.Arith.{plus, signed, unsigned}
+use Rattle.bound_laws.specs.Values.{Arc, IsHeld, difference_of, negated, scaled, sum_of, least_of, top_of}
+use Rattle.bound_laws.proofs.Laws.{in_covers, in_word, scaled_in, sum_in, sum_with_in, below_top}
+use Rattle.turn_laws.specs.Relating.{Relation, IsRelated, IsWeaker, moved_by_number, moved_by_arc, moved_back, divided, lowered, is_low}
+use Rattle.turn_laws.specs.Relating.Relation.{unknown, ahead_by, below}
+
+low_one : (a : ℕ) → a < 2 ^ 31 → signed a ≡ pos a
+low_one a h = to_z_pos w32 a h
+
+-- ---- the ends of intervals
+
+pub over : (l m a : ℕ) → l < 2 ^ 32 → a < 2 ^ 32 → (a + (2 ^ 32 - l)) % 2 ^ 32 ≤ m → l + m < 2 ^ 32 → l ≤ a
+over l m a h k n s = omega arith
+
+minus : (a b : ℕ) → b < 2 ^ 32 → (a + (2 ^ 32 - b)) % 2 ^ 32 ≡ (a + (2 ^ 32 - 1) * b % 2 ^ 32) % 2 ^ 32
+minus a b h = omega arith
+
+-- a difference is a sum with the number times 2^32 - 1
+difference_in : (i j : Option Arc) (a b : ℕ) → IsHeld i a → IsHeld j b → IsHeld (difference_of i j) ((a + (2 ^ 32 - b)) % 2 ^ 32)
+difference_in i None a b x y = in_word ((a + (2 ^ 32 - b)) % 2 ^ 32) (omega arith)
+difference_in i (Some j) a b x y =
+    let back : IsHeld (Some (negated j)) ((2 ^ 32 - 1) * b % 2 ^ 32) = scaled_in (2 ^ 32 - 1) (Some j) b y in
+    subst (λ v. IsHeld (sum_of i (Some (negated j))) v) (sym (minus a b y.word)) (sum_in i (Some (negated j)) a ((2 ^ 32 - 1) * b % 2 ^ 32) x back)
+
+above_least : (j : Option Arc) (b : ℕ) → IsHeld j b → least_of j ≤ b
+above_least None b y = omega arith
+above_least (Some j) b y = cond_both (nat_lt (j.low + j.more) (2 ^ 32)) _ _ (λ n. n ≤ b)
+    (λ h. over j.low j.more b y.start y.word y.near (ltb-true (j.low + j.more) (2 ^ 32) h)) (λ _. omega arith)
+
+pub under_top : (j : Option Arc) (b : ℕ) → IsHeld j b → b % 2 ^ 32 ≤ top_of j
+under_top None b y = omega arith
+under_top (Some j) b y = let p = below_top j b y in let q = mod-le b (2 ^ 32) in omega arith
+
+pub held_word : (j : Option Arc) (b : ℕ) → is_some j ≡ true → IsHeld j b → b < 2 ^ 32
+held_word None b some y = let bad : ⊥ = cc in absurd bad
+held_word (Some j) b some y = y.word
+
+pub held_low : (j : Option Arc) (b : ℕ) → is_low j ≡ true → IsHeld j b → b < 2 ^ 31
+held_low None b low y = let bad : ⊥ = cc in absurd bad
+held_low (Some j) b low y = let p = ltb-true (top_of (Some j)) (2 ^ 31) low in let q = below_top j b y in omega arith
+
+pub held_more : (j : Option Arc) (n b : ℕ) → nat_lt n (least_of j) ≡ true → IsHeld j b → n < b
+held_more j n b low y = let p = ltb-true n (least_of j) low in let q = above_least j b y in omega arith
+
+-- ---- weaker relations
+
+-- a greater divisor gives no greater a quotient
+less_divided : (s n m : ℕ) → 0 < n → n ≤ m → s / m ≤ s / n
+less_divided s n m some k =
+    let p : s / m * n ≤ s / m * m = mul-le-mul_left (s / m) k in
+    let q : s / m * m ≤ s = div-mul-le_self s m in
+    le-div (s / m) s n some (omega arith)
+
+pub divided_less : (s shift further : ℕ) → shift ≤ further → s / 2 ^ further ≤ s / 2 ^ shift
+divided_less s shift further h = less_divided s (2 ^ shift) (2 ^ further) (pow_pos shift) (pow-le-pow_right (let e : 0 < 2 = omega arith in e) h)
+
+pub weaker_in : (p q : Relation) (s v : ℕ) → IsRelated q s v → IsWeaker p q → IsRelated p s v
+weaker_in unknown q s v h w = tt
+weaker_in (ahead_by i) (ahead_by j) s v h w = (h.0, in_covers j i h.0 h.1 w, h.2)
+weaker_in (ahead_by i) unknown s v h w = absurd w
+weaker_in (ahead_by i) (below l b) s v h w = absurd w
+weaker_in (below l b) (below m c) s v h w = let a = w.0 in let d = divided_less s b c w.1 in omega arith
+weaker_in (below l b) unknown s v h w = absurd w
+weaker_in (below l b) (ahead_by j) s v h w = absurd w
+
+-- a value that is the same modulo 2^32
+pub same_in : (p : Relation) (s v u : ℕ) → u % 2 ^ 32 ≡ v % 2 ^ 32 → IsRelated p s v → IsRelated p s u
+same_in unknown s v u e h = tt
+same_in (ahead_by i) s v u e h = (h.0, h.1, e ∙ h.2)
+same_in (below l b) s v u e h = subst (λ n. n + l ≤ s / 2 ^ b) (sym e) h
+
+-- ---- sums
+
+more_ahead : (s d v n : ℕ) → v % 2 ^ 32 ≡ (s + d) % 2 ^ 32 → (v + n) % 2 ^ 32 % 2 ^ 32 ≡ (s + (d + n) % 2 ^ 32) % 2 ^ 32
+more_ahead s d v n h = omega arith
+
+nothing_added : (v n : ℕ) → n % 2 ^ 32 ≡ 0 → (v + n) % 2 ^ 32 % 2 ^ 32 ≡ v % 2 ^ 32
+nothing_added v n h = omega arith
+
+pub number_in : (p : Relation) (n s v : ℕ) → IsRelated p s v → IsRelated (moved_by_number p n) s (plus v n)
+number_in unknown n s v h = tt
+number_in (ahead_by i) n s v h = (plus h.0 n, sum_with_in i n h.0 h.1, more_ahead s h.0 v n h.2)
+number_in (below l b) n s v h = cond_both (n == 0) (below l b) unknown (λ p. IsRelated p s (plus v n))
+    (λ e. same_in (below l b) s v (plus v n) (nothing_added v n (ap (λ k. k % 2 ^ 32) (eqb-true n 0 e))) h) (λ _. tt)
+
+pub arc_in : (p : Relation) (j : Option Arc) (s v u : ℕ) → IsHeld j u → IsRelated p s v → IsRelated (moved_by_arc p j) s (plus v u)
+arc_in unknown j s v u k h = tt
+arc_in (ahead_by i) j s v u k h = (plus h.0 u, sum_in i j h.0 u h.1 k, more_ahead s h.0 v u h.2)
+arc_in (below l b) j s v u k h = cond_both (top_of j == 0) (below l b) unknown (λ p. IsRelated p s (plus v u))
+    (λ e. let z : top_of j ≡ 0 = eqb-true (top_of j) 0 e in let t = under_top j u k in
+    let none : u % 2 ^ 32 ≡ 0 = omega arith in same_in (below l b) s v (plus v u) (nothing_added v u none) h) (λ _. tt)
+
+pub sum_both_in : (p : Relation) (j : Option Arc) (s v u : ℕ) → IsHeld j u → IsRelated p s v → IsRelated (moved_by_arc p j) s (plus u v)
+sum_both_in p j s v u k h = subst (λ n. IsRelated (moved_by_arc p j) s (n % 2 ^ 32)) (let e : v + u ≡ u + v = omega arith in e) (arc_in p j s v u k h)
+
+pub back_in : (p : Relation) (j : Option Arc) (s v u : ℕ) → IsHeld j u → IsRelated p s v → IsRelated (moved_back p j) s ((v + (2 ^ 32 - u)) % 2 ^ 32)
+back_in unknown j s v u k h = tt
+back_in (ahead_by i) j s v u k h = ((h.0 + (2 ^ 32 - u)) % 2 ^ 32, difference_in i j h.0 u h.1 k, more_ahead s h.0 v (2 ^ 32 - u) h.2)
+back_in (below l b) j s v u k h = tt
+
+-- ---- divisions
+
+twice_divided : (s b n : ℕ) → s / 2 ^ b / 2 ^ n ≤ s / 2 ^ (b + n)
+twice_divided s b n =
+    let x : ℕ = s / 2 ^ b / 2 ^ n in
+    let p : x * 2 ^ n ≤ s / 2 ^ b = div-mul-le_self (s / 2 ^ b) (2 ^ n) in
+    let q : x * 2 ^ n * 2 ^ b ≤ s / 2 ^ b * 2 ^ b = mul-le-mul_right (2 ^ b) p in
+    let r : s / 2 ^ b * 2 ^ b ≤ s = div-mul-le_self s (2 ^ b) in
+    let e : x * 2 ^ (b + n) ≡ x * 2 ^ n * 2 ^ b = ap (λ y. x * y) (pow-add 2 b n ∙ mul_comm (2 ^ b) (2 ^ n)) ∙ sym (mul_assoc x (2 ^ n) (2 ^ b)) in
+    le-div x s (2 ^ (b + n)) (pow_pos (b + n)) (omega arith)
+
+order_divided : (a b n : ℕ) → 0 < n → a ≤ b → a / n ≤ b / n
+order_divided a b n some h =
+    let q : a / n * n ≤ a = div-mul-le_self a n in
+    le-div (a / n) b n some (omega arith)
+
+pub divided_in : (p : Relation) (n : ℕ) (word : Bool) (s v u : ℕ) → (word ≡ true → u % 2 ^ 32 ≤ v % 2 ^ 32 / 2 ^ n) → IsRelated p s v → IsRelated (divided p n word) s u
+divided_in unknown n word s v u h k = tt
+divided_in (ahead_by i) n word s v u h k = tt
+divided_in (below l b) n word s v u h k = cond_both word (below 0 (b + n)) unknown (λ p. IsRelated p s u)
+    (λ e. let a = h e in
+    let c : v % 2 ^ 32 / 2 ^ n ≤ s / 2 ^ b / 2 ^ n = order_divided (v % 2 ^ 32) (s / 2 ^ b) (2 ^ n) (pow_pos n) (omega arith) in
+    let d = twice_divided s b n in
+    let r : u % 2 ^ 32 + 0 ≤ s / 2 ^ (b + n) = omega arith in r) (λ _. tt)
+
+pub lowered_in : (p : Relation) (n : ℕ) (word : Bool) (s v u : ℕ) → (word ≡ true → u % 2 ^ 32 + n ≤ v % 2 ^ 32) → IsRelated p s v → IsRelated (lowered p n word) s u
+lowered_in unknown n word s v u h k = tt
+lowered_in (ahead_by i) n word s v u h k = tt
+lowered_in (below l b) n word s v u h k = cond_both word (below (l + n) b) unknown (λ p. IsRelated p s u)
+    (λ e. let a = h e in let r : u % 2 ^ 32 + (l + n) ≤ s / 2 ^ b = omega arith in r) (λ _. tt)
+
+-- ---- results
+
+small_below : (x y v : ℕ) → v < 2 ^ 32 → x ≤ v / y → x % 2 ^ 32 ≤ v % 2 ^ 32 / y
+small_below x y v small h = subst (λ n. x % 2 ^ 32 ≤ n / y) (sym (mod-eq_of_lt small)) (let q = mod-le x (2 ^ 32) in let r : x % 2 ^ 32 ≤ v / y = omega arith in r)
+
+pub and_less : (a n : ℕ) → a < 2 ^ 32 → bit_and a n % 2 ^ 32 + 0 ≤ a % 2 ^ 32
+and_less a n small = let p = and_le_l a n in omega arith
+
+pub shifted_less : (a n : ℕ) → a < 2 ^ 32 → a / 2 ^ n % 2 ^ 32 ≤ a % 2 ^ 32 / 2 ^ n
+shifted_less a n small = small_below (a / 2 ^ n) (2 ^ n) a small (let r : a / 2 ^ n ≤ a / 2 ^ n = omega arith in r)
+
+pub signed_shifted : (a n : ℕ) → a < 2 ^ 31 → unsigned (int_shr (signed a) n) % 2 ^ 32 ≤ a % 2 ^ 32 / 2 ^ n
+signed_shifted a n small = subst (λ z. unsigned (int_shr z n) % 2 ^ 32 ≤ a % 2 ^ 32 / 2 ^ n) (sym (low_one a small)) (go (a / 2 ^ n) (shifted_less a n (let q : a < 2 ^ 32 = omega arith in q)))
+  where
+    go : (x : ℕ) → x % 2 ^ 32 ≤ a % 2 ^ 32 / 2 ^ n → unsigned (int_shr (pos a) n) % 2 ^ 32 ≤ a % 2 ^ 32 / 2 ^ n
+    go x h = let q = shifted_less a n (let q : a < 2 ^ 32 = omega arith in q) in q
+
+pub product_less : (a b : ℕ) → a < 2 ^ 32 → b < 2 ^ 32 → a * b / 2 ^ 32 % 2 ^ 32 ≤ a % 2 ^ 32 / 2 ^ 0
+product_less a b small other =
+    let p : a * b ≤ a * 2 ^ 32 = mul-le-mul_left a (let q : b ≤ 2 ^ 32 = omega arith in q) in
+    let q : a * b / 2 ^ 32 ≤ a = div-le_of_le-mul (2 ^ 32) (let r : a * b ≤ 2 ^ 32 * a = omega arith in r) in
+    omega arith
+
+pub product_less_too : (a b : ℕ) → a < 2 ^ 32 → b < 2 ^ 32 → a * b / 2 ^ 32 % 2 ^ 32 ≤ b % 2 ^ 32 / 2 ^ 0
+product_less_too a b small other = subst (λ n. n / 2 ^ 32 % 2 ^ 32 ≤ b % 2 ^ 32 / 2 ^ 0) (mul_comm b a) (product_less b a other small)
+
+pub quotient_less : (a b : ℕ) → a < 2 ^ 32 → 1 < b → (if b == 0 then 2 ^ 32 - 1 else a / b) % 2 ^ 32 ≤ a % 2 ^ 32 / 2 ^ 1
+quotient_less a b small some = cond_both (b == 0) (2 ^ 32 - 1) (a / b) (λ n. n % 2 ^ 32 ≤ a % 2 ^ 32 / 2 ^ 1)
+    (λ e. absurd (let z : b ≡ 0 = eqb-true b 0 e in let bad : ⊥ = omega arith in bad))
+    (λ _. small_below (a / b) (2 ^ 1) a small (less_divided a (2 ^ 1) b (omega arith) (omega arith)))
+
+pub remainder_less : (a b : ℕ) → b < 2 ^ 32 → 0 < b → (if b == 0 then a else a % b) % 2 ^ 32 + 1 ≤ b % 2 ^ 32
+remainder_less a b small some = cond_both (b == 0) a (a % b) (λ n. n % 2 ^ 32 + 1 ≤ b % 2 ^ 32)
+    (λ e. absurd (let z : b ≡ 0 = eqb-true b 0 e in let bad : ⊥ = omega arith in bad))
+    (λ _. let p : a % b < b = mod-lt a some in let q = mod-le (a % b) (2 ^ 32) in let e : b % 2 ^ 32 ≡ b = mod-eq_of_lt small in omega arith)

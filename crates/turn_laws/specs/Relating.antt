@@ -1,0 +1,262 @@
+-- How often a loop turns, by what each turn makes of a register or a word of the stack: relations of values to the one number that stood
+-- there when the header was last come to, which the code has to confirm edge by edge. Ranking functions: Floyd, Assigning meanings to
+-- programs, 1967.
+use Rattle.std.specs.Prelude.{◌≡◌, ◌≢◌, ℕ, ◌+◌, ◌/◌, ◌%◌, ◌^◌, ◌<◌, ◌≤◌, ◌⊎◌, ◌==◌, ◌&&◌, nat_lt, Bool, true, false, Option, Some, None, is_some, if◌then◌else◌}
+use Rattle.scale_base.specs.declared.instruction.ImmOp.TheVariants.{Addi, Andi, Srli, Srai}
+use Rattle.scale_base.specs.declared.instruction.RegOp.TheVariants.{Add, Sub, Mulhu, Divu, Remu}
+use Rattle.scale_base.specs.declared.instruction.Instr.{Instr}
+use Rattle.scale_base.specs.declared.instruction.Instr.TheVariants.{Imm, Reg}
+use Rattle.scale_base.specs.Arith.{unsigned}
+use Rattle.scale_base.specs.State.{reg}
+use Rattle.cost_theory.specs.Graph.{Graph, Loops}
+use Rattle.code_text.specs.Text.{Text, instr_at}
+use Rattle.bound_laws.specs.Registers.{keeps}
+use Rattle.bound_laws.specs.Turning.{Leads, Calls}
+use Rattle.bound_laws.specs.Values.{Arc, arc, strided, Covers, IsHeld, held, least_of, top_of, sum_of, sum_with, difference_of, scaled, passed, IsRegister, Values, Steps}
+use Rattle.stack_laws.specs.Counting as counting
+use Rattle.stack_laws.specs.Stacks.{Stacks, View, IsLoadedTo, IsStoredFrom, IsMissed, IsRestored, IsSafe}
+
+-- ---- relations
+
+-- What is known of a value by the number that stood in the counted place when the header was last come to: nothing; that it is more by a
+-- number of an interval, modulo 2^32; or that it, and so much more, is at most that number divided by a power of 2.
+pub data Relation : Type 0 where
+  unknown : Relation
+  ahead_by : Option Arc → Relation
+  below : (less shift : ℕ) → Relation
+
+abbrev pub IsRelated : Relation → (start value : ℕ) → Type 0
+IsRelated unknown start value = Unit {0}
+IsRelated (ahead_by i) start value = (d : ℕ) × IsHeld i d × (value % 2 ^ 32 ≡ (start + d) % 2 ^ 32)
+IsRelated (below less shift) start value = value % 2 ^ 32 + less ≤ start / 2 ^ shift
+
+-- this one says no more than the other
+abbrev pub IsWeaker : Relation → Relation → Type 0
+IsWeaker unknown other = Unit {0}
+IsWeaker (ahead_by i) (ahead_by j) = Covers i j
+IsWeaker (ahead_by i) unknown = ⊥
+IsWeaker (ahead_by i) (below less shift) = ⊥
+IsWeaker (below less shift) (below more further) = (less ≤ more) × (shift ≤ further)
+IsWeaker (below less shift) unknown = ⊥
+IsWeaker (below less shift) (ahead_by j) = ⊥
+
+-- ---- what instructions make of them
+
+-- a sum with a number
+abbrev pub moved_by_number : Relation → ℕ → Relation
+moved_by_number unknown n = unknown
+moved_by_number (ahead_by i) n = ahead_by (sum_with i n)
+moved_by_number (below less shift) n = if n == 0 then below less shift else unknown
+
+-- a sum with a value of an interval
+abbrev pub moved_by_arc : Relation → Option Arc → Relation
+moved_by_arc unknown j = unknown
+moved_by_arc (ahead_by i) j = ahead_by (sum_of i j)
+moved_by_arc (below less shift) j = if top_of j == 0 then below less shift else unknown
+
+abbrev pub moved_back : Relation → Option Arc → Relation
+moved_back unknown j = unknown
+moved_back (ahead_by i) j = ahead_by (difference_of i j)
+moved_back (below less shift) j = unknown
+
+-- a word divided by a power of 2, or by a number that is that at least
+abbrev pub divided : Relation → ℕ → Bool → Relation
+divided unknown n word = unknown
+divided (ahead_by i) n word = unknown
+divided (below less shift) n word = if word then below 0 (shift + n) else unknown
+
+-- what is at most a word, and is less than that by so much
+abbrev pub lowered : Relation → ℕ → Bool → Relation
+lowered unknown n word = unknown
+lowered (ahead_by i) n word = unknown
+lowered (below less shift) n word = if word then below (less + n) shift else unknown
+
+-- the interval has words below 2^31 alone, which are no negative numbers
+abbrev pub is_low : Option Arc → Bool
+is_low None = false
+is_low (Some i) = nat_lt (top_of (Some i)) (2 ^ 31)
+
+-- what an instruction writes, by the relations and the intervals of registers before it
+abbrev pub made : Instr → (ℕ → Relation) → (ℕ → Option Arc) → Relation
+made (Imm Addi rd rs1 imm) row at = moved_by_number (row rs1) (unsigned imm)
+made (Imm Andi rd rs1 imm) row at = lowered (row rs1) 0 (is_some (held at rs1))
+made (Imm Srli rd rs1 imm) row at = divided (row rs1) (unsigned imm % 32) (is_some (held at rs1))
+made (Imm Srai rd rs1 imm) row at = divided (row rs1) (unsigned imm % 32) (is_low (held at rs1))
+made (Reg Add rd rs1 rs2) row at = moved_by_arc (row rs1) (held at rs2)
+made (Reg Sub rd rs1 rs2) row at = moved_back (row rs1) (held at rs2)
+made (Reg Mulhu rd rs1 rs2) row at = divided (row rs1) 0 (is_some (held at rs1) && is_some (held at rs2))
+made (Reg Divu rd rs1 rs2) row at = divided (row rs1) 1 (is_some (held at rs1) && nat_lt 1 (least_of (held at rs2)))
+made (Reg Remu rd rs1 rs2) row at = lowered (row rs2) 1 (is_some (held at rs2) && nat_lt 0 (least_of (held at rs2)))
+made i row at = unknown
+
+-- the same of sums and products whose second register has a relation
+abbrev pub made_too : Instr → (ℕ → Relation) → (ℕ → Option Arc) → Relation
+made_too (Reg Add rd rs1 rs2) row at = moved_by_arc (row rs2) (held at rs1)
+made_too (Reg Mulhu rd rs1 rs2) row at = divided (row rs2) 0 (is_some (held at rs1) && is_some (held at rs2))
+made_too i row at = unknown
+
+-- ---- certificates
+
+-- what is counted in: a register, or a word of the stack, by its number
+pub data Place : Type 0 where
+  in_register : ℕ → Place
+  in_word : ℕ → Place
+
+abbrev pub stands_in : Place → View → ℕ
+stands_in (in_register r) x = reg x.regs r
+stands_in (in_word k) x = x.words k
+
+-- How turns are counted: each one moves a sum of a multiple of the number and of a shift on, or takes something away from the number, or
+-- halves it so many times.
+pub data Kind : Type 0 where
+  moves : (factor shift : ℕ) → Kind
+  lowers : Kind
+  halves : (bits : ℕ) → Kind
+
+-- Why a loop can't turn often: so many times the least is at most the width.
+pub record TurnCertificate : Type 0 where
+  pub place : Place
+  pub kind : Kind
+  pub width : ℕ
+  pub least : ℕ
+  -- the code of the loop, with its header
+  pub body : ℕ → Bool
+  -- by address and register, and of a word that is counted in by address
+  pub row : ℕ → ℕ → Relation
+  pub own : ℕ → Relation
+  -- by address: the number at the header was not 0
+  pub used : ℕ → Bool
+  -- the code that runs while a call from the body is open
+  pub quiet : ℕ → Bool
+
+-- x0 has no relation
+abbrev pub row_of : TurnCertificate → ℕ → ℕ → Relation
+row_of c a r = if nat_lt 0 r && nat_lt r 32 then c.row a r else unknown
+
+-- the instruction writes the register, of what has such a relation
+abbrev pub IsMadeOver : Values → TurnCertificate → ℕ → Instr → ℕ → Relation → Type 0
+IsMadeOver v c a i r b = (keeps r i ≡ false) × (IsWeaker b (made i (row_of c a) (v.at a)) ⊎ IsWeaker b (made_too i (row_of c a) (v.at a)))
+
+-- a word that is counted in is loaded
+abbrev pub IsLoadedOwn : Stacks → TurnCertificate → ℕ → Instr → ℕ → Relation → Type 0
+IsLoadedOwn w c a i r b = (k : ℕ) × (c.place ≡ in_word k) × IsLoadedTo w a i k r × IsWeaker b (c.own a)
+
+-- a register's relation behind the instruction at a
+abbrev pub IsRowOver : Values → Stacks → TurnCertificate → ℕ → Instr → ℕ → Relation → Type 0
+IsRowOver v w c a i r b = ((keeps r i ≡ true) × IsWeaker b (c.row a r)) ⊎ IsMadeOver v c a i r b ⊎ IsLoadedOwn w c a i r b ⊎ IsWeaker b unknown
+
+-- that of a word, which is left or stored
+abbrev pub IsWordOver : Values → Stacks → TurnCertificate → ℕ → Instr → ℕ → Relation → Type 0
+IsWordOver v w c a i k b = (IsMissed v w a i k × IsWeaker b (c.own a)) ⊎ ((r : ℕ) × IsStoredFrom w a i k r × IsWeaker b (row_of c a r))
+
+abbrev pub IsOwnOver : Values → Stacks → TurnCertificate → ℕ → Instr → Place → Relation → Type 0
+IsOwnOver v w c a i (in_register r) b = Unit {0}
+IsOwnOver v w c a i (in_word k) b = IsWordOver v w c a i k b
+
+-- and behind a call at a
+abbrev pub IsRowBack : Text → Values → Stacks → TurnCertificate → (a to r : ℕ) → Relation → Type 0
+IsRowBack t v w c a to r b = IsWeaker b unknown ⊎ (IsRestored t v w a to r × IsWeaker b (c.row a r))
+
+abbrev pub IsOwnBack : Values → Stacks → TurnCertificate → (a to : ℕ) → Place → Relation → Type 0
+IsOwnBack v w c a to (in_register r) b = Unit {0}
+IsOwnBack v w c a to (in_word k) b = IsWeaker b unknown ⊎ (IsSafe v w a to k × IsWeaker b (c.own a))
+
+-- A register that the instruction leaves is not 0 on the way to b, and so neither was the number at the header.
+abbrev pub IsEvident : Values → TurnCertificate → ℕ → Instr → ℕ → Type 0
+IsEvident v c a i b = (r : ℕ) × (less : ℕ) × (shift : ℕ) × IsRegister r × (keeps r i ≡ true) × (c.row a r ≡ below less shift) × (0 < least_of (passed i a b (v.at a) r))
+
+-- what the place is related by behind the instruction at a, and behind a call there
+abbrev pub IsPlaceOver : Values → Stacks → TurnCertificate → ℕ → Instr → Place → Relation → Type 0
+IsPlaceOver v w c a i (in_register r) b = IsRegister r × IsRowOver v w c a i r b
+IsPlaceOver v w c a i (in_word k) b = IsWordOver v w c a i k b
+
+abbrev pub IsPlaceBack : Text → Values → Stacks → TurnCertificate → (a to : ℕ) → Place → Relation → Type 0
+IsPlaceBack t v w c a to (in_register r) b = IsRegister r × IsRowBack t v w c a to r b
+IsPlaceBack t v w c a to (in_word k) b = IsOwnBack v w c a to (in_word k) b
+
+-- what stands in the place at the end of a turn, by the kind
+abbrev pub IsTurned : TurnCertificate → Kind → Relation → Type 0
+IsTurned c (moves factor shift) unknown = ⊥
+IsTurned c (moves factor shift) (ahead_by i) = (most : ℕ) × Covers (Some (arc c.least most)) (scaled factor i) × (c.least + most + c.width < 2 ^ 32)
+IsTurned c (moves factor shift) (below less by) = ⊥
+IsTurned c lowers unknown = ⊥
+IsTurned c lowers (ahead_by i) = ⊥
+IsTurned c lowers (below less by) = c.least ≤ less
+IsTurned c (halves bits) unknown = ⊥
+IsTurned c (halves bits) (ahead_by i) = ⊥
+IsTurned c (halves bits) (below less by) = c.least ≤ by
+
+-- whether turns are counted by halving, which asks for a number that isn't 0
+abbrev pub is_halving : Kind → Bool
+is_halving (halves bits) = true
+is_halving other = false
+
+-- a number that isn't 0, from here on
+abbrev pub IsUsed : Values → TurnCertificate → ℕ → Instr → ℕ → Type 0
+IsUsed v c a i b = (c.used a ≡ true) ⊎ IsEvident v c a i b
+
+-- a turn that the instruction at a ends, which is no call, and one that a call ends
+abbrev pub IsTurnOver : Values → Stacks → TurnCertificate → ℕ → Instr → ℕ → Type 0
+IsTurnOver v w c a i b = ((r : Relation) × IsPlaceOver v w c a i c.place r × IsTurned c c.kind r) × (is_halving c.kind ≡ true → IsUsed v c a i b)
+
+abbrev pub IsTurnBack : Text → Values → Stacks → TurnCertificate → (a to : ℕ) → Type 0
+IsTurnBack t v w c a to = ((r : Relation) × IsPlaceBack t v w c a to c.place r × IsTurned c c.kind r) × (is_halving c.kind ≡ true → c.used a ≡ true)
+
+-- what holds at the header of what is counted in, by its interval there
+abbrev pub IsStarted : TurnCertificate → Kind → Option Arc → Type 0
+IsStarted c (moves factor shift) i = Covers (Some (arc 0 c.width)) (sum_with (scaled factor i) shift)
+IsStarted c lowers i = top_of i ≤ c.width
+IsStarted c (halves bits) i = (top_of i < 2 ^ bits) × (bits + c.least ≤ c.width + 1)
+
+abbrev pub place_arc : Values → Stacks → ℕ → Place → Option Arc
+place_arc v w a (in_register r) = held (v.at a) r
+place_arc v w a (in_word k) = w.word a k
+
+-- at the header a relation says that the number is itself
+abbrev pub IsBegun : Relation → Type 0
+IsBegun unknown = Unit {0}
+IsBegun (ahead_by i) = Covers i (Some (strided 0 0 0))
+IsBegun (below less shift) = (less ≡ 0) × (shift ≡ 0)
+
+-- What the code has to say of a certificate for the loop with this header and this extent. Each clause is about one edge of the graph, or
+-- about two of one call.
+pub record IsTurnCertificate (t : Text) (g : Graph) (v : Values) (w : Stacks) (header : ℕ) (extent : ℕ → Bool) (c : TurnCertificate) : Type 0 where
+  -- the header is in the body, and begins it: nothing is known there but of what is counted in
+  pub first : c.body header ≡ true
+  pub rows : (r : ℕ) → IsRegister r → (c.row header r ≡ unknown) ⊎ ((c.place ≡ in_register r) × IsBegun (c.row header r))
+  pub owns : IsBegun (c.own header)
+  pub unused : c.used header ≡ false
+  pub started : IsStarted c c.kind (place_arc v w header c.place)
+  -- the body is entered at its header alone, by edges, by calls and at the start of a run
+  pub entered : (a b : ℕ) → Leads g a b → v.live a ≡ true → c.body b ≡ true → b ≢ header → c.body a ≡ true
+  pub called : (a b : ℕ) → Calls g a b → v.live a ≡ true → c.body b ≡ true → b ≡ header
+  pub entry : c.body t.entry ≡ true → t.entry ≡ header
+  -- what is counted as a turn comes from the body
+  pub counts : (a : ℕ) → Leads g a header → v.live a ≡ true → extent a ≡ true → c.body a ≡ true
+  -- within the body each instruction keeps the relations
+  pub along : (a b r : ℕ) (i : Instr) → Steps g a b → v.live a ≡ true → c.body a ≡ true → c.body b ≡ true → b ≢ header → instr_at t a ≡ Some i → IsRegister r → IsRowOver v w c a i r (c.row b r)
+  pub along_own : (a b : ℕ) (i : Instr) → Steps g a b → v.live a ≡ true → c.body a ≡ true → c.body b ≡ true → b ≢ header → instr_at t a ≡ Some i → IsOwnOver v w c a i c.place (c.own b)
+  pub along_used : (a b : ℕ) (i : Instr) → Steps g a b → v.live a ≡ true → c.body a ≡ true → c.body b ≡ true → b ≢ header → instr_at t a ≡ Some i → c.used b ≡ true → IsUsed v c a i b
+  -- and so does each call
+  pub back : (a to b r : ℕ) → Calls g a to → Leads g a b → v.live a ≡ true → c.body a ≡ true → c.body b ≡ true → b ≢ header → IsRegister r → IsRowBack t v w c a to r (c.row b r)
+  pub back_own : (a to b : ℕ) → Calls g a to → Leads g a b → v.live a ≡ true → c.body a ≡ true → c.body b ≡ true → b ≢ header → IsOwnBack v w c a to c.place (c.own b)
+  pub back_used : (a to b : ℕ) → Calls g a to → Leads g a b → v.live a ≡ true → c.body a ≡ true → c.body b ≡ true → b ≢ header → c.used b ≡ true → c.used a ≡ true
+  -- each turn does what the kind says
+  pub turns : (a : ℕ) (i : Instr) → Steps g a header → v.live a ≡ true → c.body a ≡ true → instr_at t a ≡ Some i → IsTurnOver v w c a i header
+  pub turns_back : (a to : ℕ) → Calls g a to → Leads g a header → v.live a ≡ true → c.body a ≡ true → IsTurnBack t v w c a to
+  -- calls from the body go to quiet code
+  pub calls : (a b : ℕ) → Calls g a b → v.live a ≡ true → c.body a ≡ true → c.quiet b ≡ true
+  -- quiet code stays quiet along its edges and calls, and never comes to the header
+  pub quiet_along : (a b : ℕ) → Leads g a b → c.quiet a ≡ true → c.quiet b ≡ true
+  pub quiet_calls : (a b : ℕ) → Calls g a b → c.quiet a ≡ true → c.quiet b ≡ true
+  pub quiet_apart : c.quiet header ≡ false
+
+-- A bound of a loop that the code alone shows, in one way or in the other.
+pub record IsTurnShown (t : Text) (g : Graph) (v : Values) (w : Stacks) (l : Loops) (k : ℕ) : Type 0 where
+  pub certificate : TurnCertificate
+  pub is : IsTurnCertificate t g v w (l.header k) (l.inside k) certificate
+  pub positive : 0 < certificate.least
+  pub enough : certificate.width / certificate.least ≤ l.bound k
+
+abbrev pub IsShown : Text → Graph → Values → Stacks → Loops → ℕ → Type 0
+IsShown t g v w l k = counting.IsShown t g v w l k ⊎ IsTurnShown t g v w l k

@@ -1,0 +1,19 @@
+//! Laws of turns: a loop each turn of which moves a register or a word of the stack on by a number of an interval, takes something away from
+//! it, or halves it, turns no more often than that allows. Laws of the machine's runs, over the definitions alone. RISC-V Unprivileged ISA,
+//! RV32I and the extension M.
+#![tactic(auto)]
+
+ghost use Rattle.turn_laws.specs.Laws.{TurnCertificatesBoundTurns, ShownBoundsAreKept, ShownBoundsAreKeptByReturns, RunsAreKept};
+
+/// A loop turns at most as often as a certificate of its turns allows, as long as the returns of the run go back to their calls.
+pub fn turn_certificates_bound_turns()
+    ensures { TurnCertificatesBoundTurns }
+{}
+
+/// A run of an image breaks no bound that tables of its code show, in one way or in the other, before it breaks a return address or another
+/// bound. Where all bounds are shown, and the code says of returns that they go back, every run of an image keeps them, on each input.
+pub fn shown_bounds_are_kept()
+    ensures shown { ShownBoundsAreKept }
+    ensures all { ShownBoundsAreKeptByReturns }
+    ensures kept { RunsAreKept }
+{}
