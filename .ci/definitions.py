@@ -1,7 +1,8 @@
 #!/usr/bin/env python3
 """Checks that docs/DEFINITIONS.md lists every definition that a clause of `run_tool` cites, directly or through others, and no other one.
 
-With the word `write` it writes that list anew, behind its heading.
+It checks, too, that a file of `specs/` begins with the word `Scaffold` where no clause of `run_tool` or `run_pace` cites it, and else doesn't.
+With the word `write` it writes the list anew, behind its heading, and that word.
 """
 
 import re
@@ -15,12 +16,14 @@ ROOT = Path(__file__).resolve().parent.parent
 CRATES = ROOT / "crates"
 PAGE = ROOT / "docs" / "DEFINITIONS.md"
 TOP = CRATES / "scale_tool" / "src" / "tool.rt"
+PACE = CRATES / "pace_tool" / "src" / "pace.rt"
 HEADING = "## All names, by file\n"
 
 USE = re.compile(r"^\s*(?:pub |ghost )*use (Rattle\.[^\s{]+?)(?:\.\{([^}]*)\}| as (\w+))?;?$", re.M)
 START = re.compile(r"^(\s*)((?:(?:abbrev|unfoldable|pub|record|data) )+)([^\s:({]+)")
 WORD = re.compile(r"(?<![\w.'])[A-Za-z_][\w'-]*(?:\.[A-Za-z_][\w'-]*)?")
-CALL = re.compile(r"^pub fn run_tool\b.*?^\{", re.M | re.S)
+CALL = re.compile(r"^pub fn (?:run_tool|run_pace)\b.*?^\{", re.M | re.S)
+SCAFFOLD = "-- Scaffold: "
 
 
 class File:
@@ -83,9 +86,9 @@ def file_of(module):
     return FILES[module]
 
 
-def reached():
-    """All definitions that the clauses of the top call cite: pairs of module and name."""
-    top = File(TOP, "//")
+def reached(path):
+    """All definitions that the clauses of the top call of a file cite: pairs of module and name."""
+    top = File(path, "//")
     todo = [place for text in clauses(CALL.search(top.body)[0]) for place in top.cited(text)]
     seen = set()
     while todo:
@@ -124,18 +127,41 @@ def listed(found):
     return "\n".join(lines)
 
 
+def scaffold(cited, write):
+    """How many files of `specs/` no top call cites, and those of all files whose first line says otherwise, which `write` mends."""
+    wrong, count = [], 0
+    for path in sorted(CRATES.glob("*/specs/**/*.antt")):
+        if path.name == "Lib.antt":
+            continue
+        text, meant = path.read_text(), path not in cited
+        count += meant
+        if text.startswith(SCAFFOLD) != meant:
+            wrong.append(path)
+            if write:
+                about = text.removeprefix(SCAFFOLD).removeprefix("-- ")
+                first = about[0].upper() if not meant else about[0] if about[1:2].isupper() else about[0].lower()
+                path.write_text((SCAFFOLD if meant else "-- ") + first + about[1:])
+    return count, wrong
+
+
 def main():
-    found = reached()
+    found = reached(TOP)
+    write = sys.argv[1:] == ["write"]
+    cited = {CRATES.joinpath(*module.split(".")[1:]).with_suffix(".antt") for module, _ in found | reached(PACE)}
+    count, wrong = scaffold(cited, write)
     page = PAGE.read_text()
     before, _, now = page.partition(HEADING)
     meant = listed(found)
-    if sys.argv[1:] == ["write"]:
+    if write:
         PAGE.write_text(before.rstrip("\n") + "\n\n" + meant)
         return 0
     good = HEADING + now == meant
     files = len({module for module, _ in found})
     print(f"definitions: {len(found)} in {files} files are cited by the top call; the page {'lists them' if good else 'differs'}")
-    return 0 if good else 1
+    print(f"definitions: {count} files of specs/ are scaffold, which neither program's top call cites")
+    for path in wrong:
+        print(f"definitions: the first line of {path.relative_to(ROOT)} is wrong: definitions.py write")
+    return 0 if good and not wrong else 1
 
 
 if __name__ == "__main__":

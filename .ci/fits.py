@@ -3,7 +3,8 @@
 
     fits.py SCALE PACE ..   these builds of `pace`, with a build of `scale` beside them
 
-A draft that is whole is taken by `scale hold`. Of a large program the functions are drawn alone. Made programs: what `bench/fit.py` checks of each run, at three
+A draft that is whole is taken by `scale hold`. Of a large program the functions are drawn alone. An image in which a loop is there twice runs as the program itself,
+on inputs by which the loop turns seldom and often. Made programs: what `bench/fit.py` checks of each run, at three
 deadlines, with inputs and without; and their drafts, filled in, keep what their own loop files say. What is wrong is told, and the status is then 1.
 """
 
@@ -17,6 +18,7 @@ import tomllib
 TOP = os.path.dirname(os.path.dirname(os.path.abspath(__file__)))
 sys.path.insert(0, os.path.join(TOP, "bench"))
 
+import cases  # noqa: E402
 import fit  # noqa: E402
 
 PROGRAMS, SIZE = (2001, 2002, 2003), 40
@@ -54,6 +56,30 @@ def check_large(scale, pace, folder):
     done = run(pace, folder, "draw", "plan", "large.elf", "large.machine", "large.loops", "large.dot")
     if done.returncode != 0 or any(part not in read(folder, "large.dot") for part in ALONE):
         yield "pace draw plan of a large program: status %d, %r" % (done.returncode, done.stderr)
+
+
+def versioned(pace, folder):
+    """What `all --versions` prints for the program of the cases, whose files stand in the folder then."""
+    read_in = cases.read_all(os.path.join(TOP, "crates", "pace_tool", "cases"), "pace")[2]
+    shelf = next(reader.shelf for reader in read_in if os.path.basename(reader.path) == "versions.txt")
+    for name, phrase in (("p.elf", "divide-each"), ("m", "m-1800"), ("ten", "ten"), ("forty", "forty")):
+        with open(os.path.join(folder, name), "wb") as file:
+            file.write(shelf.bytes(phrase))
+    return run(pace, folder, "all", "p.elf", "m", "out", "ten", "forty", "--versions")
+
+
+def check_versions(scale, pace, folder):
+    """What is wrong of the runs of an image in which a loop is there twice, on inputs of each length."""
+    done = versioned(pace, folder)
+    if done.returncode != 0 or b"\nversion 0x" not in done.stdout:
+        yield "pace all --versions: status %d, %r" % (done.returncode, done.stdout)
+        return
+    for length in range(41):
+        with open(os.path.join(folder, "input"), "wb") as file:
+            file.write(bytes(length))
+        runs = [(*fit.run(scale, "simulate", *(os.path.join(folder, name) for name in (image, "m", "input", "report"))), read(folder, "report")) for image in ("p.elf", "out")]
+        # The cycles of a versioned image are its own run's, with those of the guard.
+        yield from ("versions, %d bytes: %s" % (length, what) for what in fit.breaches(done.stdout.decode(), 1800, *runs) if what != "too many cycles")
 
 
 class Tools:
@@ -102,6 +128,7 @@ def main():
         with tempfile.TemporaryDirectory(prefix="pace-fits-") as folder:
             wrong += check_taken(scale, folder)
             wrong += check_large(scale, pace, folder)
+            wrong += check_versions(scale, pace, folder)
         wrong += check_programs(scale, pace)
     print("\n".join([*wrong, "%d builds of pace%s" % (len(programs), ", and not all as expected" if wrong else " as expected")]))
     return 1 if wrong else 0

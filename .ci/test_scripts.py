@@ -67,6 +67,22 @@ pub IsFour : ℕ → 𝒰
 IsFour n = n ≡ 4
 """
 
+SIZES = """-- Sizes of the second program.
+pub IsLarge : ℕ → 𝒰
+IsLarge n = 100 ≤ n
+"""
+
+SECOND = """//! The second top call.
+
+ghost use Rattle.low.specs.Sizes.{IsLarge};
+
+pub fn run_pace() -> u8
+    ensures { IsLarge result }
+{
+    100
+}
+"""
+
 NUMBERS = """-- Small numbers.
 pub IsSmall : ℕ → 𝒰
 IsSmall n = n < 10
@@ -150,10 +166,13 @@ class Boundaries(Tree):
 
 class Definitions(Tree):
     PAGE = "docs/DEFINITIONS.md"
+    SCAFFOLD = "definitions: %d files of specs/ are scaffold, which neither program's top call cites"
 
     def setUp(self):
         super().setUp()
         self.write("crates/scale_tool/src/tool.rt", TOOL)
+        self.write("crates/pace_tool/src/pace.rt", SECOND)
+        self.write("crates/low/specs/Sizes.antt", SIZES)
         self.write("crates/low/specs/Words.antt", WORDS)
         self.write("crates/low/specs/Numbers.antt", NUMBERS)
         self.write(self.PAGE, "# Definitions\n")
@@ -163,15 +182,30 @@ class Definitions(Tree):
         page = (self.root / self.PAGE).read_text()
         self.assertIn("**`low/specs/Words.antt`** The words of the top call.\n`IsOne`, `IsTwo`, `IsThree`\n", page)
         self.assertIn("**`low/specs/Numbers.antt`** Small numbers.\n`IsSmall`\n", page)
-        told = ["definitions: 4 in 2 files are cited by the top call; the page lists them"]
+        told = ["definitions: 4 in 2 files are cited by the top call; the page lists them", self.SCAFFOLD % 0]
         self.assertEqual(self.run_script("definitions.py"), (told, 0))
 
     def test_a_page_that_differs(self):
-        told = ["definitions: 4 in 2 files are cited by the top call; the page differs"]
+        told = ["definitions: 4 in 2 files are cited by the top call; the page differs", self.SCAFFOLD % 0]
         page = (self.root / self.PAGE).read_text()
         for other in (page.replace(", `IsThree`", ""), page.replace("`IsThree`", "`IsThree`, `IsFour`")):
             self.write(self.PAGE, other)
             self.assertEqual(self.run_script("definitions.py"), (told, 1))
+
+    def test_scaffold_says_so(self):
+        self.write("crates/low/specs/Steps.antt", "-- What steps are.\npub IsStep : ℕ → 𝒰\nIsStep n = n ≡ 0\n")
+        self.write("crates/low/specs/Sizes.antt", "-- Scaffold: sizes of the second program.\n" + SIZES.partition("\n")[2])
+        told = [
+            "definitions: 4 in 2 files are cited by the top call; the page lists them",
+            self.SCAFFOLD % 1,
+            "definitions: the first line of crates/low/specs/Sizes.antt is wrong: definitions.py write",
+            "definitions: the first line of crates/low/specs/Steps.antt is wrong: definitions.py write",
+        ]
+        self.assertEqual(self.run_script("definitions.py"), (told, 1))
+        self.run_script("definitions.py", "write")
+        self.assertEqual(self.run_script("definitions.py"), (told[:2], 0))
+        self.assertEqual((self.root / "crates/low/specs/Steps.antt").read_text().partition("\n")[0], "-- Scaffold: what steps are.")
+        self.assertEqual((self.root / "crates/low/specs/Sizes.antt").read_text().partition("\n")[0], "-- Sizes of the second program.")
 
 
 class Edits(Tree):

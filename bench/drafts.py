@@ -6,7 +6,7 @@
 Each FOLDER has one program in C, FOLDER/NAME.c, with inputs in FOLDER/inputs, FOLDER/samples or FOLDER/commands; without any, the examples are taken. What a folder
 doesn't have, inputs or a machine, stands beside it, as in bench/programs: ten programs after which nothing was chosen. A folder without a program
 is left out. gcc and clang build each at -O0, -O1, -O2 and -Os, with branches for switches. A row by compiler and level has how many loops there are, how many of
-them have a proved bound, how many images there are, how many drafts have nothing open, and in how many returns are proved. What isn't built or refused is told.
+them have a proved bound, how many of these have least turns, and for how many those are the bound; how many images there are, how many drafts have nothing open, and in how many returns are proved. What isn't built or refused is told.
 
 Each draft is filled in where loops are open (1000000000), and each input is run with it by `scale simulate`. Where a run breaks a drafted bound, or a return address
 though returns are proved, that is told, and the status is 1.
@@ -42,11 +42,15 @@ class Rows:
     def tell(self, text):
         print(text, file=sys.stderr)
 
-    def add(self, key, text):
+    def add(self, key, text, draft):
+        with open(draft) as file:
+            turns = re.findall(r"(?m)^bound = (\d+)\n(?:counted = true\n)?at_least = (\d+)$", file.read())
         numbers = {name: int(value) for name, value in re.findall(r"^(loops|proved|open|irreducible) (\d+)$", text, re.M)}
         row = self.rows[key]
         row["loops"] += numbers["loops"]
         row["proved"] += numbers["proved"]
+        row["least"] += len(turns)
+        row["exact"] += sum(most == least for most, least in turns)
         row["images"] += 1
         row["complete"] += numbers["open"] == 0 and numbers["irreducible"] == 0
         row["returns"] += "returns proved" in text
@@ -66,11 +70,12 @@ class Rows:
                 self.tell(f"{name} on {given}: {kept[1] if kept else done.stdout + done.stderr}")
 
     def print(self):
-        print("| compiler | level | loops | proved | images | nothing open | returns proved |")
-        print("|---|---|---|---|---|---|---|")
+        print("| compiler | level | loops | proved | `at_least` | as the bound | images | nothing open | returns proved |")
+        print("|---|---|---|---|---|---|---|---|---|")
         for (compiler, level), row in [*self.rows.items(), (("both", "all"), sum(self.rows.values(), collections.Counter()))]:
             share = 100 * row["proved"] / max(row["loops"], 1)
-            print(f"| {compiler} | {level} | {row['loops']} | {row['proved']} ({share:.0f} %) | {row['images']} | {row['complete']} | {row['returns']} |")
+            bounds = f"{row['loops']} | {row['proved']} ({share:.0f} %) | {row['least']} | {row['exact']}"
+            print(f"| {compiler} | {level} | {bounds} | {row['images']} | {row['complete']} | {row['returns']} |")
 
 
 def main():
@@ -93,7 +98,7 @@ def main():
                     if drafted.returncode:
                         rows.tell(f"{name}: {drafted.stdout}{drafted.stderr}".rstrip())
                         continue
-                    rows.add((compiler, level), drafted.stdout)
+                    rows.add((compiler, level), drafted.stdout, image + ".toml")
                     rows.try_runs(given.scale, name, folder, image, image + ".toml", "returns proved" in drafted.stdout)
     rows.print()
     return 1 if rows.wrong else 0

@@ -1,7 +1,7 @@
 #!/usr/bin/env python3
 """Prints what the images that `pace fit` stores of C programs save over those of `scale hold`, on inputs that they were fitted to and on others.
 
-    fit_programs.py [--jobs N] [--pace PROGRAM] [--scale PROGRAM] [FOLDER ..]
+    fit_programs.py [--jobs N] [--pace PROGRAM] [--scale PROGRAM] [--versions] [FOLDER ..]
 
 Each FOLDER has one program in C, FOLDER/NAME.c, and may have inputs in FOLDER/inputs, eight at least; else eight of up to 64 bytes are drawn. Without any
 the six examples with inputs and the programs of bench/programs are taken. gcc and clang build each at -O0, -O1, -O2 and -Os, with branches for switches. `pace loops`
@@ -10,7 +10,8 @@ nothing counts is told and left out.
 
 Deadlines are 1.5, 2.5 and 3.0 times the worst cycles; levels take 4, 2 and 1 time units and 1, 3 and 8 energy units a cycle, a switch takes 10 and 20. Images are fitted to
 the first and the third input. For each deadline there is the geometric mean of the energies over those of `hold`, and the greatest, on the inputs that were fitted to together and
-on each of the others. A run that breaks the promise is told, as by `fit.py`, and the status is 1.
+on each of the others. A run that breaks the promise is told, as by `fit.py`, and the status is 1. With `--versions`, images are those of `pace all --versions` where no loop is open
+in the draft, and it is told how many have a loop twice.
 """
 
 import argparse
@@ -68,7 +69,8 @@ class Build:
         """Gives each loop that is open in the draft the most turns of any input."""
         with open(self.path("loops")) as file:
             draft = file.read()
-        if "# no bound" not in draft:
+        self.is_closed = "# no bound" not in draft
+        if self.is_closed:
             return
         with open(self.path("loops"), "w") as file:
             file.write(re.sub(r"(?m)^# no bound.*$", "bound = 1000000000", draft))
@@ -95,20 +97,27 @@ class Build:
 
 
 def fit(program, deadline):
-    """What is broken of an image that is fitted to the first and third input, and by input the ratio of its energy to that of the held one."""
+    """What is broken of an image that is fitted to the first and third input, by input the ratio of its energy to that of the held one, and whether a loop is there twice."""
     program.with_deadline(deadline)
     run(program.tools.scale, "hold", *program.files(), program.path("held"))
-    status, text = run(program.tools.pace, "fit", *program.files(), program.path("fitted"), *(program.inputs[k] for k in FITTED))
+    image, machine, loops = program.files()
+    given = [program.path("fitted"), *(program.inputs[k] for k in FITTED)]
+    if program.tools.versions and program.is_closed:
+        status, text = run(program.tools.pace, "all", image, machine, *given, "--versions")
+    else:
+        status, text = run(program.tools.pace, "fit", image, machine, loops, *given)
     if status:
-        return [f"status {status}"], {}
+        return [f"status {status}"], {}, False
     faults, ratios = [], {}
+    # The cycles of a versioned image are compared with its own run's, not the original's.
+    is_versioned = re.search("^version ", text, re.M) is not None
     for k, given in enumerate(program.inputs):
         original = program.simulate("p.elf", given, program.path("loops"))
         if counts(original):
             paced, held = program.simulate("fitted", given), program.simulate("held", given)
-            faults += [f"input {k}: {what}" for what in breaches(text, deadline, original, paced)]
+            faults += [f"input {k}: {what}" for what in breaches(text, deadline, original, paced) if not (is_versioned and what == "too many cycles")]
             ratios[k] = (number(paced[1], "energy"), number(held[1], "energy"))
-    return faults, ratios
+    return faults, ratios, is_versioned
 
 
 def rows_of(tools, folder, compiler, level):
@@ -120,12 +129,12 @@ def rows_of(tools, folder, compiler, level):
         if not worst:
             return [f"{program.name}: left out"], 0, {}
         for factor in DEADLINES:
-            broken, ratios = fit(program, int(factor * worst))
+            broken, ratios, is_versioned = fit(program, int(factor * worst))
             told += [f"{program.name}, deadline {factor} times the worst cycles: {what}" for what in broken]
             faults += len(broken)
             fitted = [ratios[k] for k in FITTED if k in ratios]
             new = [one / other for k, (one, other) in ratios.items() if k not in FITTED]
-            rows[factor] = ([sum(one for one, _ in fitted) / sum(other for _, other in fitted)] if fitted else [], new)
+            rows[factor] = ([sum(one for one, _ in fitted) / sum(other for _, other in fitted)] if fitted else [], new, is_versioned)
             if tools.each:
                 told.append(f"{program.name}, {factor}: fitted {mean(rows[factor][0]):.3f}, new {mean(new):.3f}, at most {max(new, default=1):.3f}")
     return told, faults, rows
@@ -134,6 +143,7 @@ def rows_of(tools, folder, compiler, level):
 def main():
     words = argparse.ArgumentParser(description=__doc__, formatter_class=argparse.RawDescriptionHelpFormatter)
     words.add_argument("--jobs", type=int, default=os.cpu_count())
+    words.add_argument("--versions", action="store_true", help="fit images in which a loop is there twice, too")
     words.add_argument("--each", action="store_true", help="tell of each build, too")
     words.add_argument("--pace", default=f"{TOP}/pace")
     words.add_argument("--scale", default=f"{TOP}/scale")
@@ -155,6 +165,8 @@ def main():
     for factor, found in rows.items():
         fitted, new = ([ratio for row in found for ratio in row[part]] for part in (0, 1))
         print("| %.1f | %.3f | %.3f | %.3f | %.3f |" % (factor, mean(fitted), max(fitted, default=1), mean(new), max(new, default=1)))
+    if tools.versions:
+        print("a loop is there twice: " + ", ".join("%d at %.1f" % (sum(row[2] for row in found), factor) for factor, found in rows.items()))
     return 1 if wrong else 0
 
 

@@ -1,4 +1,4 @@
--- What two answers about one program have in common.
+-- Scaffold: what two answers about one program have in common.
 use Rattle.std.specs.Prelude.{◌≡◌, ℕ, ◌<◌, ◌⊎◌, List}
 use Rattle.scale_base.specs.declared.refusal.Refusal.{Refusal}
 use Rattle.scale_base.specs.declared.refusal.Refusal.TheVariants.{Recursion, UnboundedCycle}
@@ -18,7 +18,8 @@ pub record NameCycles (cause : List ℕ → Refusal) (refusal refusal' : Refusal
 
 -- two refusals are the same, but for the cycle that they name
 abbrev pub AreAlikeRefusals : Refusal → Refusal → Type 0
-AreAlikeRefusals refusal refusal' = (refusal ≡ refusal') ⊎ (NameCycles (λ cycle. Recursion cycle) refusal refusal' ⊎ NameCycles (λ cycle. UnboundedCycle cycle) refusal refusal')
+AreAlikeRefusals refusal refusal' = (refusal ≡ refusal') ⊎ (NameCycles (λ cycle. Recursion cycle) refusal refusal' ⊎
+    NameCycles (λ cycle. UnboundedCycle cycle) refusal refusal')
 
 -- two trees list the same loops
 pub record AreAlikeTrees (v v' : FlowGraph) (t t' : LoopView) : Type 0 where

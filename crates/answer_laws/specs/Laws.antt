@@ -1,4 +1,4 @@
--- The laws that the answers about one program agree, as statements for the contracts of functions.
+-- Scaffold: the laws that the answers about one program agree, as statements for the contracts of functions.
 use Rattle.std.specs.Prelude.{◌≡◌, ℕ, List}
 use Rattle.scale_base.specs.declared.refusal.Refusal.{Refusal}
 use Rattle.scale_base.specs.declared.stepping.Class.{Class}
@@ -22,7 +22,8 @@ GraphIsNotRefused = (t : Text) (v : FlowGraph) (refusal : Refusal) → IsGraphOf
 
 -- two refusals of a text are alike,
 abbrev pub CodeRefusalsAgree : Type 0
-CodeRefusalsAgree = (t : Text) (refusal refusal' : Refusal) → IsRefusedBy t refusal → IsRefusedBy t refusal' → AreAlikeRefusals refusal refusal'
+CodeRefusalsAgree = (t : Text) (refusal refusal' : Refusal) → IsRefusedBy t refusal → IsRefusedBy t refusal' →
+    AreAlikeRefusals refusal refusal'
 
 -- and two graphs of it differ in the numbers of functions alone,
 abbrev pub GraphsAreRenumbered : Type 0
@@ -53,10 +54,14 @@ TreesAgree = (v v' : FlowGraph) (notes : List LoopNote) (t t' : LoopView) → Is
 
 -- Two records of numbers hold the same.
 abbrev pub NumbersAreAlike : Type 0
-NumbersAreAlike = (v v' : FlowGraph) (notes : List LoopNote) (t t' : LoopView) (w : ℕ → ℕ) (n n' : Numbers) → (same : IsRenumbered v v') → IsFlowGraph v →
-    IsTreeOf v notes t → IsTreeOf v' notes t' → AreNumbers (graph v) (loops v t) w n → AreNumbers (graph v') (loops v' t') w n' → AreAlikeNumbers v v' t t' same w n n'
+NumbersAreAlike = (v v' : FlowGraph) (notes : List LoopNote) (t t' : LoopView) (w : ℕ → ℕ) (n n' : Numbers) → (same : IsRenumbered v v') →
+    IsFlowGraph v →
+    IsTreeOf v notes t → IsTreeOf v' notes t' → AreNumbers (graph v) (loops v t) w n → AreNumbers (graph v') (loops v' t') w n' →
+    AreAlikeNumbers v v' t t' same w n n'
 
 -- So do two records of least cycles.
 abbrev pub ChargedAreAlike : Type 0
-ChargedAreAlike = (t : Text) (v v' : FlowGraph) (notes : List LoopNote) (tree tree' : LoopView) (w : ℕ → ℕ) (n n' : Charged) → IsGraphOf t v → IsRenumbered v v' →
-    IsTreeOf v notes tree → IsTreeOf v' notes tree' → AreWeights (graph v) w → AreCharged (graph v) (loops v tree) w n → AreCharged (graph v') (loops v' tree') w n' → AreAlikeCharged v v' tree tree' n n'
+ChargedAreAlike = (t : Text) (v v' : FlowGraph) (notes : List LoopNote) (tree tree' : LoopView) (w : ℕ → ℕ) (n n' : Charged) →
+    IsGraphOf t v → IsRenumbered v v' →
+    IsTreeOf v notes tree → IsTreeOf v' notes tree' → AreWeights (graph v) w → AreCharged (graph v) (loops v tree) w n →
+    AreCharged (graph v') (loops v' tree') w n' → AreAlikeCharged v v' tree tree' n n'

@@ -1,4 +1,4 @@
--- Graphs of one program that differ in the numbers of functions alone. The first function keeps its number, 0.
+-- Scaffold: graphs of one program that differ in the numbers of functions alone. The first function keeps its number, 0.
 use Rattle.std.specs.Prelude.{◌≡◌, ℕ, ◌<◌, length, slice_get, Some, option_map}
 use Rattle.cost_theory.specs.Graph.{Graph}
 use Rattle.cost_theory.specs.Reached.{returns_of}

@@ -1,8 +1,10 @@
 //! Images that are chosen of proposals. Rows of whole fittings are data, `fit.txt` of the second program's `cases`.
 
 use crate::fixtures::*;
+use gain_tuner::GivenFiles;
 use pace_fit::{Fitted, choose, prepare};
 use paced_images::{Proposal, SwitchSite};
+use run_progress::Silent;
 use scale_base::EdgeKind;
 use std::alloc::Global;
 use std::process::Abort;
@@ -60,10 +62,14 @@ fn chosen(
     if inputs.len() > 64 || !are_short(inputs) || proposals.len() > 64 {
         return Err(Fail::from("inputs or proposals"));
     }
-    match prepare(alloc, image, machine, loops, inputs) {
-        Ok(prepared) => {
-            Ok(choose(alloc, image, machine, loops, inputs, &prepared, proposals)?.1)
-        }
+    let given = GivenFiles {
+        image,
+        machine,
+        loops,
+        inputs,
+    };
+    match prepare(alloc, &given, &mut Silent) {
+        Ok(prepared) => Ok(choose(alloc, &given, &prepared, proposals, &mut Silent)?.1),
         Err(_) => Err(Fail::from("files that are refused")),
     }
 }
@@ -146,7 +152,12 @@ fn proposed(alloc: Global, files: &Files<'_>, inputs: &[Vec<u8>]) -> Result<Vec<
     if inputs.len() != 1 {
         return Err(Fail::from("inputs"));
     }
-    Ok(propose(alloc, image, machine, loops, inputs, &[Some(100)])?)
+    let files = switch_search::Files {
+        image,
+        machine,
+        loops,
+    };
+    Ok(propose(alloc, &files, inputs, &[Some(100)], &mut Silent)?)
 }
 
 /// The first site of the first proposal, and how many sites and tallied loops this has.

@@ -55,9 +55,11 @@ pub record IsCertificate (t : Text) (g : Graph) (header : ℕ) (extent : ℕ →
   -- what is counted as a turn comes from the body
   pub counted : (a : ℕ) → Leads g a header → extent a ≡ true → c.body a ≡ true
   -- within the body each instruction has a known effect, and those of all ways to an address agree
-  pub along : (a b : ℕ) → Leads g a b → c.body a ≡ true → c.body b ≡ true → b ≢ header → (e : ℕ) × (effect_at t c.measure a ≡ Some e) × (c.offset b ≡ behind c a e)
+  pub along : (a b : ℕ) → Leads g a b → c.body a ≡ true → c.body b ≡ true → b ≢ header → (e : ℕ) × (effect_at t c.measure a ≡ Some e) ×
+      (c.offset b ≡ behind c a e)
   -- each turn raises the measure by the least at least, and never past 2^32
-  pub turns : (a : ℕ) → Leads g a header → c.body a ≡ true → (e : ℕ) × (effect_at t c.measure a ≡ Some e) × (c.least ≤ behind c a e) × (behind c a e + c.width < 2 ^ 32)
+  pub turns : (a : ℕ) → Leads g a header → c.body a ≡ true → (e : ℕ) × (effect_at t c.measure a ≡ Some e) × (c.least ≤ behind c a e) ×
+      (behind c a e + c.width < 2 ^ 32)
   -- calls from the body go to quiet code, and leave the register
   pub calls : (a b : ℕ) → Calls g a b → c.body a ≡ true → (c.quiet b ≡ true) × (effect_at t c.measure a ≡ Some 0)
   -- quiet code stays quiet along its edges and calls, leaves the register, and never comes to the header
@@ -68,7 +70,8 @@ pub record IsCertificate (t : Text) (g : Graph) (header : ℕ) (extent : ℕ →
 
 -- What a run has to say: at the header the measure is within the width, as long as the run's returns go back to their calls.
 abbrev pub StaysWithin : Setting → State → Loops → ℕ → Certificate → Type 0
-StaysWithin env s l k c = (n : ℕ) (d : Carried) → kept_at env s (unasked l) n ≡ Some d → (run env s n).standing ≡ GoesOn → (run env s n).state.pc ≡ l.header k →
+StaysWithin env s l k c = (n : ℕ) (d : Carried) → kept_at env s (unasked l) n ≡ Some d → (run env s n).standing ≡ GoesOn →
+    (run env s n).state.pc ≡ l.header k →
     measured c.measure (run env s n).state.regs ≤ c.width
 
 -- A loop's bound that a certificate shows: so often the least fits into the width.

@@ -46,7 +46,8 @@ IsHeld (Some a) value = IsIn a value
 
 -- what is in the other is in this one, with its strides
 abbrev pub IsPart : Arc → Arc → Type 0
-IsPart a b = (ahead a.low b.low + b.more ≤ a.more) × (a.more < 2 ^ 32) × IsMultiple a.stride (ahead a.low b.low) × IsMultiple a.stride b.stride
+IsPart a b = (ahead a.low b.low + b.more ≤ a.more) × (a.more < 2 ^ 32) × IsMultiple a.stride (ahead a.low b.low) ×
+    IsMultiple a.stride b.stride
 
 -- all words are
 abbrev pub IsAll : Arc → Type 0
@@ -99,7 +100,8 @@ common_stride s t = if s == 0 then t else if t == 0 then s else if s == t then s
 abbrev pub sum_of : Option Arc → Option Arc → Option Arc
 sum_of None other = word
 sum_of (Some i) None = word
-sum_of (Some i) (Some j) = if nat_lt (i.more + j.more) (2 ^ 32) then Some (strided (plus i.low j.low) (i.more + j.more) (common_stride i.stride j.stride)) else word
+sum_of (Some i) (Some j) = if nat_lt (i.more + j.more) (2 ^ 32) then Some (strided (plus i.low j.low) (i.more + j.more)
+    (common_stride i.stride j.stride)) else word
 
 -- the sum with a number
 abbrev pub sum_with : Option Arc → ℕ → Option Arc
@@ -121,7 +123,8 @@ difference_of i (Some j) = sum_of i (Some (negated j))
 -- the multiples by a number, modulo 2^32
 abbrev pub times : Option Arc → ℕ → Option Arc
 times None factor = word
-times (Some i) factor = if nat_lt (i.more * factor) (2 ^ 32) then Some (strided (i.low * factor % 2 ^ 32) (i.more * factor) (i.stride * factor)) else word
+times (Some i) factor = if nat_lt (i.more * factor) (2 ^ 32) then Some (strided (i.low * factor % 2 ^ 32) (i.more * factor)
+    (i.stride * factor)) else word
 
 abbrev pub negated_of : Option Arc → Option Arc
 negated_of None = word
@@ -371,7 +374,8 @@ both i j = between (max i.from j.from) (min i.to j.to)
 
 -- without the one number of j, at an end of i
 abbrev pub without_one : Interval → Interval → Interval
-without_one i j = between (if (j.from == j.to) && (i.from == j.from) then i.from + 1 else i.from) (if (j.from == j.to) && (i.to == j.from) then i.to - 1 else i.to)
+without_one i j = between (if (j.from == j.to) && (i.from == j.from) then i.from + 1 else i.from)
+    (if (j.from == j.to) && (i.to == j.from) then i.to - 1 else i.to)
 
 -- of the first register, and of the second one, where the comparison holds
 abbrev pub first_range : BranchOp → Interval → Interval → Interval
@@ -487,7 +491,8 @@ solved m line other = sum_with (sum_of line (scaled (opposite_of m.other_factor)
 -- the interval of a word that a line gives behind the instruction
 abbrev pub IsSolved : Values → Instr → ℕ → ℕ → ℕ → Type 0
 IsSolved v i a b r =
-    (j : ℕ) × (e : ℕ) × ((v.forms j).register ≡ r) × ((v.forms j).factor ≡ 1) × (effect (v.forms j) i ≡ Some e) × (is_some (passed i a b (v.at a) r) ≡ true) ×
+    (j : ℕ) × (e : ℕ) × ((v.forms j).register ≡ r) × ((v.forms j).factor ≡ 1) × (effect (v.forms j) i ≡ Some e) ×
+    (is_some (passed i a b (v.at a) r) ≡ true) ×
     Covers (v.at b r) (solved (v.forms j) (sum_with (v.lines a j) e) (held (passed i a b (v.at a)) (v.forms j).other))
 
 -- a register's interval at b holds what the instruction at a leaves in it
@@ -500,7 +505,8 @@ IsLineCovered v i a b j =
     Covers (v.lines b j) (line_of (v.forms j) (passed i a b (v.at a))) ⊎
     ((e : ℕ) × (effect (v.forms j) i ≡ Some e) ×
     (Covers (v.lines b j) (sum_with (v.lines a j) e) ⊎
-    ((e ≡ 0) × (is_difference (said i a b) (v.forms j) (v.at a) ≡ true) × Covers (v.lines b j) (without (v.lines a j) ((v.forms j).shift % 2 ^ 32)))))
+    ((e ≡ 0) × (is_difference (said i a b) (v.forms j) (v.at a) ≡ true) × Covers (v.lines b j)
+    (without (v.lines a j) ((v.forms j).shift % 2 ^ 32)))))
 
 -- a run may come to the address, where the registers are in the intervals, and so are the lines
 pub record AreIn (v : Values) (a : ℕ) (regs : List ℕ) : Type 0 where

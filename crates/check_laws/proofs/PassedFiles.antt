@@ -1,31 +1,22 @@
 -- Yes is an answer of a check of what `rewrite` stores.
-use Rattle.std.proofs.Common.{◌≡◌, ℕ, List, Option, None, Result, Ok, sym, ap, ◌∙◌, subst}
-use Rattle.scale_base.specs.declared.ranges.Keyed.{Keyed}
-use Rattle.scale_base.specs.declared.refusal.Refusal.{Refusal}
+use Rattle.std.proofs.Common.{◌≡◌, ℕ, List, Ok, sym, ap, ◌∙◌, subst}
 use Rattle.scale_base.specs.declared.summary.Summary.{Summary}
 use Rattle.scale_base.specs.declared.verdict.Verdict.TheVariants.{Yes}
 use Rattle.scale_base.specs.Image.{image_of}
 use Rattle.power_model.specs.Price.{time_at}
-use Rattle.machine_file.specs.Machine.{read_machine}
 use Rattle.machine_file.proofs.Laws.{model-from_bytes}
-use Rattle.loop_file.specs.Loops.{read_loops}
 use Rattle.stub_writer.specs.Stubs.{out_of_reach}
 use Rattle.rewritten_runs.specs.Stubs.{rewritten_file, marks_by_slack}
 use Rattle.rewritten_runs.proofs.Laws.{rewritten_follow}
-use Rattle.answer_parts.specs.Parts.{Then, unscaled}
+use Rattle.program_sources.specs.declared.reading.Sources.{Sources}
+use Rattle.program_sources.specs.Sources.{sources_of}
+use Rattle.program_sources.proofs.Laws.{key_unscaled, sources_are, then_is}
 use Rattle.marked_images.specs.Stored.{rewritten_summary}
 use Rattle.marked_images.proofs.Laws.{near_of}
 use Rattle.scaler.proofs.Laws.{rewritten_parts}
 use Rattle.image_check.specs.Checked.{IsPassed, IsFileVerdict, IsChecked}
 use Rattle.check_laws.specs.Passing.{checked_as, RewrittenFilesAreChecked}
 use Rattle.image_check.proofs.Laws.{rewritten_safe}
-
--- what follows a part that was answered
-then_from : {A B : Type 0} (part : Result A Refusal) (next : A → Result B Refusal → Type 0) (x : A) (y : Result B Refusal) → part ≡ Ok x → next x y → Then part next y
-then_from part next x y e h = subst (λ r. Then r next y) (sym e) h
-
-plain_key : (keyed : Option Keyed) → keyed ≡ None → unscaled keyed ≡ Ok tt
-plain_key keyed e = ap unscaled e
 
 pub files_checked : RewrittenFilesAreChecked
 unfolding IsChecked
@@ -54,8 +45,6 @@ files_checked = λ image machine loop_file stored summary short _ _ h.
     } in
     let verdict : IsFileVerdict went.power went.original (image_of stored) went.notes p.code p.tree (Yes (checked_as summary)) =
     subst (λ r. IsFileVerdict went.power went.original r went.notes p.code p.tree (Yes (checked_as summary))) (sym (ap image_of bytes ∙ follows.is)) passed in
-    then_from (read_machine machine) _ went.power (Ok (Yes (checked_as summary))) went.power_is
-    (then_from (image_of image) _ went.original (Ok (Yes (checked_as summary))) went.original_is
-    (then_from (unscaled went.original.keyed_segment) _ tt (Ok (Yes (checked_as summary))) (plain_key went.original.keyed_segment went.no_key)
-    (then_from (read_loops went.original loop_file) _ went.notes (Ok (Yes (checked_as summary))) went.notes_are
-    (p.code, p.tree, p.weighed.code_is, p.weighed.tree_is, verdict))))
+    let s : Sources = record { power = went.power; view = went.original; notes = went.notes } in
+    let are = sources_are image machine loop_file s (record { power_is = went.power_is; view_is = went.original_is; unscaled = key_unscaled went.original.keyed_segment went.no_key; notes_are = went.notes_are }) in
+    then_is (sources_of image machine loop_file) s _ (Ok (Yes (checked_as summary))) are (p.code, p.tree, p.weighed.code_is, p.weighed.tree_is, verdict)

@@ -14,10 +14,14 @@ checked_as summary = record { start = summary.start; worst = summary.worst; time
 
 -- Yes is an answer that a check may give of what is stored, with the numbers that were printed.
 abbrev pub RewrittenFilesAreChecked : Type 0
-RewrittenFilesAreChecked = (image machine loop_file stored : List ℕ) (summary : Summary) → length image ≤ 4194304 → length machine ≤ 1048576 → length loop_file ≤ 1048576
-    → IsRewritten image machine loop_file (Ok ((stored, summary))) → IsChecked image stored machine loop_file (Ok (Yes (checked_as summary)))
+RewrittenFilesAreChecked = (image machine loop_file stored : List ℕ) (summary : Summary) → length image ≤ 4194304 →
+    length machine ≤ 1048576 → length loop_file ≤ 1048576
+    → IsRewritten image machine loop_file (Ok ((stored, summary))) → IsChecked image stored machine loop_file
+    (Ok (Yes (checked_as summary)))
 
 -- The only answer of a check of what is stored, with the same three files, is yes with the printed numbers.
 abbrev pub RewrittenImagesPass : Type 0
-RewrittenImagesPass = (image machine loop_file stored : List ℕ) (summary : Summary) (answer : Result Verdict Refusal) → length image ≤ 4194304 → length machine ≤ 1048576 → length loop_file ≤ 1048576
-    → IsRewritten image machine loop_file (Ok ((stored, summary))) → IsChecked image stored machine loop_file answer → answer ≡ Ok (Yes (checked_as summary))
+RewrittenImagesPass = (image machine loop_file stored : List ℕ) (summary : Summary) (answer : Result Verdict Refusal) →
+    length image ≤ 4194304 → length machine ≤ 1048576 → length loop_file ≤ 1048576
+    → IsRewritten image machine loop_file (Ok ((stored, summary))) → IsChecked image stored machine loop_file answer →
+    answer ≡ Ok (Yes (checked_as summary))

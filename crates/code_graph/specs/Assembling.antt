@@ -1,4 +1,4 @@
--- The lists of a graph, and what they are made of.
+-- Scaffold: the lists of a graph, and what they are made of.
 use Rattle.std.specs.Prelude.{◌≡◌, ℕ, ◌+◌, ◌-◌, ◌<◌, ◌≤◌, ◌⊎◌, Bool, true, false, List, [], ◌∷◌, ◌++◌, length, map, take, drop, slice_get, slice_index, slice_index_or, Option, Some, None, Result, Ok, Err}
 use Rattle.std.specs.List.{flat_map}
 use Rattle.scale_base.specs.declared.edges.Edge.{Edge}
@@ -47,7 +47,8 @@ pub record AreReachedNodes (r : Reach) (n : ℕ) (nodes : List ℕ) (kinds : Lis
   pub owners_size : length owners ≡ length nodes
   pub few : length nodes ≤ n
   pub each : (j a : ℕ) → slice_get nodes j ≡ Some a → IsNodeWord r n nodes kinds owners j a
-  pub whole : (k i a : ℕ) → k < n → owner_number r k ≡ Some i → slice_get r.words.addresses k ≡ Some a → (j : ℕ) × (slice_get nodes j ≡ Some a)
+  pub whole : (k i a : ℕ) → k < n → owner_number r k ≡ Some i → slice_get r.words.addresses k ≡ Some a → (j : ℕ) ×
+      (slice_get nodes j ≡ Some a)
   pub ascending : (i j a b : ℕ) → i < j → slice_get nodes i ≡ Some a → slice_get nodes j ≡ Some b → a < b
 
 -- the flag of word k
@@ -110,9 +111,11 @@ pub record IsTurned (numbers turned : List ℕ) : Type 0 where
 
 -- an order of the functions, callees first, where no calls lead round; or functions that call each other round
 abbrev pub IsOrdered : List ℕ → List ℕ → List (Option ℕ) → Result (List ℕ) Refusal → Type 0
-IsOrdered entries owners callees (Ok order) = (arcs : List Arc) × AreCallArcs (length owners) owners callees arcs × IsSorted (length entries) arcs order × HasNoCycle arcs
+IsOrdered entries owners callees (Ok order) = (arcs : List Arc) × AreCallArcs (length owners) owners callees arcs ×
+    IsSorted (length entries) arcs order × HasNoCycle arcs
 IsOrdered entries owners callees (Err refusal) =
-    (arcs : List Arc) × AreCallArcs (length owners) owners callees arcs × (cycle : List ℕ) × IsCycle arcs cycle × (named : List ℕ) × (refusal ≡ Recursion named) × IsTurned (map (slice_index entries) cycle) named
+    (arcs : List Arc) × AreCallArcs (length owners) owners callees arcs × (cycle : List ℕ) × IsCycle arcs cycle × (named : List ℕ) ×
+    (refusal ≡ Recursion named) × IsTurned (map (slice_index entries) cycle) named
 
 -- ---- blocks
 
@@ -130,14 +133,16 @@ IsEntryNode nodes owners functions k = slice_index nodes k ≡ slice_index funct
 
 -- an edge leads to node k that is not the only one of its node, of kind Next
 abbrev pub LeadsApart : List Edge → List ℕ → List ℕ → List (Option ℕ) → ℕ → ℕ → Type 0
-LeadsApart edges firsts sources targets e k = (slice_get targets e ≡ Some (Some k)) × (IsOnlyNext edges firsts (slice_index sources e) e → ⊥)
+LeadsApart edges firsts sources targets e k = (slice_get targets e ≡ Some (Some k)) ×
+    (IsOnlyNext edges firsts (slice_index sources e) e → ⊥)
 
 -- by node whether it begins a block: the entries of functions do, and the nodes to which one of the first n edges leads apart
 pub record AreHeads (n : ℕ) (nodes owners functions : List ℕ) (edges : List Edge) (firsts sources : List ℕ) (targets : List (Option ℕ)) (heads : List Bool) : Type 0 where
   pub size : length heads ≡ length nodes
   pub entry : (k : ℕ) → k < length nodes → IsEntryNode nodes owners functions k → slice_get heads k ≡ Some true
   pub apart : (e k : ℕ) → e < n → LeadsApart edges firsts sources targets e k → slice_get heads k ≡ Some true
-  pub only : (k : ℕ) → slice_get heads k ≡ Some true → IsEntryNode nodes owners functions k ⊎ ((e : ℕ) × (e < n) × LeadsApart edges firsts sources targets e k)
+  pub only : (k : ℕ) → slice_get heads k ≡ Some true → IsEntryNode nodes owners functions k ⊎
+      ((e : ℕ) × (e < n) × LeadsApart edges firsts sources targets e k)
 
 -- the numbers below n of the flags that are up, ascending
 pub record AreUp (n : ℕ) (flags : List Bool) (numbers : List ℕ) : Type 0 where

@@ -1,4 +1,4 @@
--- What is found in the reached words of a text before its graph is built: refused words and shared code.
+-- Scaffold: what is found in the reached words of a text before its graph is built: refused words and shared code.
 use Rattle.std.specs.Prelude.{◌≡◌, ◌≢◌, ℕ, ◌<◌, ◌≤◌, slice_get, Option, Some, None}
 use Rattle.cost_theory.specs.declared.flow.Flow.TheVariants as flow
 use Rattle.cost_theory.specs.Reached.{HasNoBadWord}

@@ -1,4 +1,4 @@
--- Steps by number: where each word of the text goes on, and from which a return can come.
+-- Scaffold: steps by number: where each word of the text goes on, and from which a return can come.
 use Rattle.std.specs.Prelude.{◌≡◌, ℕ, ◌+◌, ◌<◌, Bool, true, false, ◌&&◌, ◌||◌, ◌⊎◌, ◌≤◌, not, ◌==◌, nat_le, List, [], ◌∷◌, length, All, slice_index, slice_index_or, if◌then◌else◌, Option, Some, None}
 use Rattle.code_graph.specs.declared.reach.step.Step.{Step}
 use Rattle.code_graph.specs.declared.reach.step.Step.TheVariants.{Return, Stop, On, Call}
@@ -36,7 +36,8 @@ pub data CanReturnAt (steps : List Step) : ℕ → Type 0 where
   here : {s : ℕ} → s < length steps → step_at steps s ≡ Return → CanReturnAt steps s
   jumps : {s : ℕ} (k : ℕ) (next : Bool) → s < length steps → step_at steps s ≡ On (Some k) next → CanReturnAt steps k → CanReturnAt steps s
   goes : {s : ℕ} (jump : Option ℕ) → s < length steps → step_at steps s ≡ On jump true → CanReturnAt steps (s + 1) → CanReturnAt steps s
-  across : {s : ℕ} (k : ℕ) → s < length steps → step_at steps s ≡ Call (Some k) true → CanReturnAt steps k → CanReturnAt steps (s + 1) → CanReturnAt steps s
+  across : {s : ℕ} (k : ℕ) → s < length steps → step_at steps s ≡ Call (Some k) true → CanReturnAt steps k → CanReturnAt steps (s + 1) →
+      CanReturnAt steps s
 
 -- k is one of the words by which a return can come from s
 abbrev pub IsPart : List Step → ℕ → ℕ → Type 0
@@ -87,9 +88,11 @@ pub record AreStepChains (steps : List Step) (n : ℕ) (last before : List (Opti
   pub last_size : length last ≡ length steps
   pub before_size : length before ≡ length steps
   pub last_key : (k s : ℕ) → slice_index_or last k None ≡ Some s → (s < n) × (key_of (step_at steps s) ≡ Some k)
-  pub before_key : (k s r : ℕ) → k < length steps → s < n → key_of (step_at steps s) ≡ Some k → slice_index_or before s None ≡ Some r → (r < s) × (key_of (step_at steps r) ≡ Some k)
+  pub before_key : (k s r : ℕ) → k < length steps → s < n → key_of (step_at steps s) ≡ Some k → slice_index_or before s None ≡ Some r →
+      (r < s) × (key_of (step_at steps r) ≡ Some k)
   pub last_all : (k x : ℕ) → k < length steps → x < n → key_of (step_at steps x) ≡ Some k → is_below (slice_index_or last k None) x ≡ true
-  pub before_all : (k s x : ℕ) → k < length steps → s < n → key_of (step_at steps s) ≡ Some k → key_of (step_at steps x) ≡ Some k → x < s → is_below (slice_index_or before s None) x ≡ true
+  pub before_all : (k s x : ℕ) → k < length steps → s < n → key_of (step_at steps s) ≡ Some k → key_of (step_at steps x) ≡ Some k → x < s →
+      is_below (slice_index_or before s None) x ≡ true
 
 -- those left without the words of key k
 abbrev pub but_keyed : List Step → ℕ → (ℕ → Bool) → ℕ → Bool

@@ -1,4 +1,4 @@
--- The functions in which words are reached. A function is named by the number of its first word.
+-- Scaffold: the functions in which words are reached. A function is named by the number of its first word.
 use Rattle.std.specs.Prelude.{◌≡◌, ℕ, ◌+◌, ◌<◌, ◌≤◌, Bool, true, false, ◌&&◌, ◌⊎◌, ◌↔◌, ◌==◌, List, [], ◌∷◌, length, All, slice_index, slice_index_or, if◌then◌else◌, Option, Some, None}
 use Rattle.code_graph.specs.declared.reach.step.Step.{Step}
 use Rattle.code_graph.specs.declared.reach.step.Step.TheVariants.{Return, Stop, On, Call}
@@ -34,13 +34,17 @@ next_of step returns u = if goes_on_after step returns then Some (u + 1) else No
 -- reached word calls, over jumps and next words.
 pub data ReachedAt (steps : List Step) (returns : List Bool) (first : ℕ) : ℕ → ℕ → Type 0 where
   enters : {f v : ℕ} → f ≡ first → v ≡ first → first < length steps → ReachedAt steps returns first f v
-  jumps : {f v : ℕ} (u : ℕ) → ReachedAt steps returns first f u → jumped_word (step_at steps u) ≡ Some v → v < length steps → ReachedAt steps returns first f v
-  goes : {f v : ℕ} (u : ℕ) → ReachedAt steps returns first f u → goes_on_after (step_at steps u) returns ≡ true → v ≡ u + 1 → v < length steps → ReachedAt steps returns first f v
-  calls : {f v : ℕ} (g u : ℕ) → ReachedAt steps returns first g u → called_word (step_at steps u) ≡ Some f → v ≡ f → f < length steps → ReachedAt steps returns first f v
+  jumps : {f v : ℕ} (u : ℕ) → ReachedAt steps returns first f u → jumped_word (step_at steps u) ≡ Some v → v < length steps →
+      ReachedAt steps returns first f v
+  goes : {f v : ℕ} (u : ℕ) → ReachedAt steps returns first f u → goes_on_after (step_at steps u) returns ≡ true → v ≡ u + 1 →
+      v < length steps → ReachedAt steps returns first f v
+  calls : {f v : ℕ} (g u : ℕ) → ReachedAt steps returns first g u → called_word (step_at steps u) ≡ Some f → v ≡ f → f < length steps →
+      ReachedAt steps returns first f v
 
 -- in two functions
 abbrev pub IsReachedTwice : List Step → List Bool → ℕ → ℕ → Type 0
-IsReachedTwice steps returns first v = (f : ℕ) × (g : ℕ) × (f ≡ g → ⊥) × ReachedAt steps returns first f v × ReachedAt steps returns first g v
+IsReachedTwice steps returns first v = (f : ℕ) × (g : ℕ) × (f ≡ g → ⊥) × ReachedAt steps returns first f v ×
+    ReachedAt steps returns first g v
 
 abbrev pub mark_at : List Mark → ℕ → Mark
 mark_at marks v = slice_index_or marks v Unreached
@@ -106,7 +110,9 @@ pub record MarksGrow (marks : List Mark) (numbers : List (Option ℕ)) (queue : 
 pub record IsMarkSettled (steps : List Step) (returns : List Bool) (marks : List Mark) (numbers : List (Option ℕ)) (u : ℕ) : Type 0 where
   pub jump : (k : ℕ) → jumped_word (step_at steps u) ≡ Some k → k < length steps → Below (mark_at marks u) (mark_at marks k)
   pub next : goes_on_after (step_at steps u) returns ≡ true → u + 1 < length steps → Below (mark_at marks u) (mark_at marks (u + 1))
-  pub call : (f h : ℕ) → Covers (mark_at marks u) f → called_word (step_at steps u) ≡ Some h → h < length steps → Covers (mark_at marks h) h × ((i : ℕ) × (function_number numbers h ≡ Some i))
+  pub call : (f h : ℕ) → Covers (mark_at marks u) f → called_word (step_at steps u) ≡ Some h → h < length steps →
+      Covers (mark_at marks h) h × ((i : ℕ) × (function_number numbers h ≡ Some i))
 
 abbrev pub AllWait : List Step → List Bool → List Mark → List (Option ℕ) → List ℕ → ℕ → Type 0
-AllWait steps returns marks numbers queue done = (u : ℕ) → u < length steps → IsMarkSettled steps returns marks numbers u ⊎ IsFrom queue done u
+AllWait steps returns marks numbers queue done = (u : ℕ) → u < length steps → IsMarkSettled steps returns marks numbers u ⊎
+    IsFrom queue done u

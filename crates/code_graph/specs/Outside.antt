@@ -1,4 +1,4 @@
--- The lowest reached address at which no word of a text stands.
+-- Scaffold: the lowest reached address at which no word of a text stands.
 use Rattle.std.specs.Prelude.{◌≡◌, ℕ, ◌+◌, ◌<◌, ◌≤◌, ◌⊎◌, Bool, true, false, List, slice_get, slice_index_or, Option, Some, None, min}
 use Rattle.cost_theory.specs.declared.flow.Flow.{Flow}
 use Rattle.cost_theory.specs.declared.flow.Flow.TheVariants as flow
@@ -38,8 +38,10 @@ GoesOnTo words returns w v u = LeadsTo w v u ⊎ (w ≡ flow.Call u) ⊎ ComesBa
 
 -- it goes on there from word k
 abbrev pub GoesOnFrom : WordTable → List Bool → ℕ → ℕ → Type 0
-GoesOnFrom words returns k u = (v : ℕ) × (w : Flow) × WordStandsAt words k v × (slice_get words.kinds k ≡ Some w) × GoesOnTo words returns w v u
+GoesOnFrom words returns k u = (v : ℕ) × (w : Flow) × WordStandsAt words k v × (slice_get words.kinds k ≡ Some w) ×
+    GoesOnTo words returns w v u
 
 -- the program begins at u, or the way goes on there from one of the reached words below n
 abbrev pub IsComeTo : WordTable → List Bool → List Mark → ℕ → ℕ → ℕ → Type 0
-IsComeTo words returns marks entry n u = (u ≡ entry) ⊎ ((k : ℕ) × (k < n) × (has_mark (slice_index_or marks k Unreached) ≡ true) × GoesOnFrom words returns k u)
+IsComeTo words returns marks entry n u = (u ≡ entry) ⊎ ((k : ℕ) × (k < n) × (has_mark (slice_index_or marks k Unreached) ≡ true) ×
+    GoesOnFrom words returns k u)

@@ -1,4 +1,4 @@
--- What a pass over the words of a text finds: which of them are reached, and in which functions.
+-- Scaffold: what a pass over the words of a text finds: which of them are reached, and in which functions.
 -- A function is named by its entry. Words of the text are numbered by their addresses.
 use Rattle.std.specs.Prelude.{◌≡◌, ℕ, ◌≤◌, ◌↔◌, Bool, true, List, length, slice_get, Option, Some}
 use Rattle.cost_theory.specs.Reached.{Reached, DoesReturn}
@@ -39,6 +39,7 @@ pub record IsReachOf (t : Text) (r : Reach) : Type 0 where
   pub functions_within : (i k : ℕ) → slice_get r.functions i ≡ Some k → (v : ℕ) × WordStandsAt r.words k v
   pub first : (k : ℕ) → WordStandsAt r.words k t.entry → slice_get r.functions 0 ≡ Some k
   pub numbers : (k i : ℕ) → (slice_get r.numbers k ≡ Some (Some i)) ↔ (slice_get r.functions i ≡ Some k)
-  pub returns : (k v : ℕ) → WordStandsAt r.words k v → Reached (kind_at t) t.entry v v → (slice_get r.returning k ≡ Some true) ↔ DoesReturn (kind_at t) t.entry v
+  pub returns : (k v : ℕ) → WordStandsAt r.words k v → Reached (kind_at t) t.entry v v →
+      (slice_get r.returning k ≡ Some true) ↔ DoesReturn (kind_at t) t.entry v
   pub outside : (v : ℕ) → r.outside ≡ Some v → IsReached t v × ((k : ℕ) → WordStandsAt r.words k v → ⊥)
   pub outside_least : (v : ℕ) → IsReached t v → ((k : ℕ) → WordStandsAt r.words k v → ⊥) → (u : ℕ) × (r.outside ≡ Some u) × (u ≤ v)

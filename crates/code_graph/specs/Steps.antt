@@ -1,4 +1,4 @@
--- Where the words of a text go on by their numbers, and in which functions they are reached by their numbers.
+-- Scaffold: where the words of a text go on by their numbers, and in which functions they are reached by their numbers.
 use Rattle.std.specs.Prelude.{◌≡◌, ◌≢◌, ℕ, ◌+◌, ◌%◌, ◌<◌, ◌↔◌, ◌⊎◌, Bool, true, false, List, length, slice_get, Option, Some, None}
 use Rattle.scale_base.specs.Image.{PLAIN_END}
 use Rattle.cost_theory.specs.declared.flow.Flow.{Flow}
@@ -64,8 +64,10 @@ pub record AreReachMarks (steps : List Step) (returns : List Bool) (entry : Opti
   pub marks_size : length marks ≡ length steps
   pub numbers_size : length numbers ≡ length steps
   pub unreached : (v f : ℕ) → slice_get marks v ≡ Some Unreached → ReachedFrom steps returns entry f v → ⊥
-  pub owner : (v f : ℕ) → slice_get marks v ≡ Some (Owner f) → ReachedFrom steps returns entry f v × ((g : ℕ) → ReachedFrom steps returns entry g v → g ≡ f)
-  pub shared : (v : ℕ) → slice_get marks v ≡ Some Shared → (f : ℕ) × (g : ℕ) × (f ≢ g) × ReachedFrom steps returns entry f v × ReachedFrom steps returns entry g v
+  pub owner : (v f : ℕ) → slice_get marks v ≡ Some (Owner f) → ReachedFrom steps returns entry f v ×
+      ((g : ℕ) → ReachedFrom steps returns entry g v → g ≡ f)
+  pub shared : (v : ℕ) → slice_get marks v ≡ Some Shared → (f : ℕ) × (g : ℕ) × (f ≢ g) × ReachedFrom steps returns entry f v ×
+      ReachedFrom steps returns entry g v
   pub listed : (h : ℕ) → ((i : ℕ) × (slice_get functions i ≡ Some h)) ↔ ReachedFrom steps returns entry h h
   pub listed_within : (h i : ℕ) → slice_get functions i ≡ Some h → h < length steps
   pub first : (e : ℕ) → entry ≡ Some e → slice_get functions 0 ≡ Some e

@@ -50,7 +50,8 @@ fn entry_flags(alloc: Global, nodes: &Nodes, functions: &[u32]) -> Result<Vec<bo
     requires owners { length nodes.now.owners.items ≡ length nodes.now.addresses.items }
     requires functions { (k o : ℕ) → slice_get nodes.now.owners.items k ≡ Some o → o < length functions.now }
     ensures size { IfOk result (λ flags. length flags.items ≡ length nodes.now.addresses.items) }
-    ensures up { IfOk result (λ flags. (k : ℕ) → k < length nodes.now.addresses.items → (slice_get flags.items k ≡ Some true) ↔ IsEntryNode nodes.now.addresses.items nodes.now.owners.items functions.now k) }
+    ensures up { IfOk result (λ flags. (k : ℕ) → k < length nodes.now.addresses.items →
+        (slice_get flags.items k ≡ Some true) ↔ IsEntryNode nodes.now.addresses.items nodes.now.owners.items functions.now k) }
 {
     let mut flags = Vec::new(alloc);
     for k in 0..nodes.addresses.len() {
@@ -71,8 +72,10 @@ fn heads_of(
     requires owners { length nodes.now.owners.items ≡ length nodes.now.addresses.items }
     requires functions { (k o : ℕ) → slice_get nodes.now.owners.items k ≡ Some o → o < length functions.now }
     requires firsts { AreFirsts (length nodes.now.addresses.items) nodes.now.addresses.items lists.now.edges.items lists.now.firsts.items }
-    requires ends { AreEnds (length lists.now.edges.items) nodes.now.addresses.items lists.now.edges.items ends.now.sources.items ends.now.targets.items }
-    ensures { IfOk result (λ heads. AreHeads (length lists.now.edges.items) nodes.now.addresses.items nodes.now.owners.items functions.now lists.now.edges.items lists.now.firsts.items ends.now.sources.items ends.now.targets.items heads.items) }
+    requires ends { AreEnds (length lists.now.edges.items) nodes.now.addresses.items lists.now.edges.items ends.now.sources.items
+        ends.now.targets.items }
+    ensures { IfOk result (λ heads. AreHeads (length lists.now.edges.items) nodes.now.addresses.items nodes.now.owners.items functions.now
+        lists.now.edges.items lists.now.firsts.items ends.now.sources.items ends.now.targets.items heads.items) }
 {
     // Each other node is reached over an edge, which is then the only one of the node before it.
     let mut heads = entry_flags(alloc, nodes, functions)?;
@@ -135,8 +138,10 @@ pub fn blocks_of(
     requires functions { (k o : ℕ) → slice_get nodes.now.owners.items k ≡ Some o → o < length functions.now }
     requires low { (k : ℕ) → k < length nodes.now.addresses.items → slice_index nodes.now.addresses.items k + 4 < 2 ^ 32 }
     requires firsts { AreFirsts (length nodes.now.addresses.items) nodes.now.addresses.items lists.now.edges.items lists.now.firsts.items }
-    requires ends { AreEnds (length lists.now.edges.items) nodes.now.addresses.items lists.now.edges.items ends.now.sources.items ends.now.targets.items }
-    ensures { IfOk result (λ blocks. AreBlocksBy nodes.now.addresses.items nodes.now.owners.items functions.now lists.now.edges.items lists.now.firsts.items ends.now.sources.items ends.now.targets.items blocks.items) }
+    requires ends { AreEnds (length lists.now.edges.items) nodes.now.addresses.items lists.now.edges.items ends.now.sources.items
+        ends.now.targets.items }
+    ensures { IfOk result (λ blocks. AreBlocksBy nodes.now.addresses.items nodes.now.owners.items functions.now lists.now.edges.items
+        lists.now.firsts.items ends.now.sources.items ends.now.targets.items blocks.items) }
 {
     let heads = heads_of(alloc, nodes, functions, lists, ends)?;
     let starts = numbers_up(alloc, &heads)?;

@@ -36,7 +36,8 @@ fn owner_of(reach: &TextReach, k: usize) -> Option<usize>
 /// The words that are reached in one function.
 pub fn nodes_of(alloc: Global, reach: &TextReach) -> Result<Nodes, NoMemory>
     requires { IsReach reach.now }
-    ensures { IfOk result (λ nodes. AreReachedNodes (reach_of reach.now) (length reach.now.words.addresses) nodes.addresses.items nodes.kinds.items nodes.owners.items) }
+    ensures { IfOk result (λ nodes. AreReachedNodes (reach_of reach.now) (length reach.now.words.addresses) nodes.addresses.items
+        nodes.kinds.items nodes.owners.items) }
 {
     let mut addresses = Vec::new(alloc);
     let mut kinds = Vec::new(alloc);

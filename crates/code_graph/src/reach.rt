@@ -52,7 +52,15 @@ fn words_of(alloc: Global, view: &ImageView<'_>) -> Result<TextWords, NoMemory>
 
 /// Finds the reached words of an image's text. Err only for want of memory.
 pub fn reach_text(alloc: Global, view: &ImageView<'_>) -> Result<TextReach, NoMemory>
-    ensures { IfOk result (λ r. IsReachOf (text_of view.now) (record { words = r.words; returning = r.returning.items; marks = r.marks.items; functions = r.functions.items; numbers = r.numbers.items; outside = r.outside })) }
+    ensures { IfOk result (λ r. IsReachOf (text_of view.now) (record {
+      words = r.words;
+      returning = r.returning.items;
+      marks =
+          r.marks.items;
+      functions = r.functions.items;
+      numbers = r.numbers.items;
+      outside = r.outside;
+    })) }
 {
     let words = words_of(alloc, view)?;
     let entry = view.entry();

@@ -1,4 +1,4 @@
--- What a walk over the ranges of a text knows of the range at which it is.
+-- Scaffold: what a walk over the ranges of a text knows of the range at which it is.
 use Rattle.std.specs.Prelude.{◌≡◌, ℕ, ◌+◌, ◌%◌, ◌==◌, ◌<◌, ◌≤◌, nat_le, true, List, length, slice_index, Ok}
 use Rattle.std.specs.List.{list_any}
 use Rattle.scale_base.specs.declared.ranges.Range.{Range}

@@ -25,7 +25,8 @@ fn jump_at(view: &ImageView<'_>, at: u32) -> Option<u32>
 /// Puts the targets of the branches and JALs of a range to the others.
 fn add_targets(targets: &mut Vec<u32>, view: &ImageView<'_>, range: Range) -> Result<(), NoMemory>
     requires { IsWalked view.now range }
-    ensures { IfOk result (λ _. (v : ℕ) → list_any (λ u. u == v) targets.new.items ≡ (list_any (λ u. u == v) targets.old.items || texts.jumps_from (texts.text_of view.now) v range)) }
+    ensures { IfOk result (λ _. (v : ℕ) → list_any (λ u. u == v) targets.new.items ≡
+        (list_any (λ u. u == v) targets.old.items || texts.jumps_from (texts.text_of view.now) v range)) }
 {
     for k in 0..range.to.saturating_sub(range.from) / 4 {
         if let Some(to) = jump_at(view, range.from + 4 * k) {

@@ -102,7 +102,8 @@ EnteredLoopsAreAccepted = (g : Graph) (l : Loops) (extent : ℕ → ℕ → Bool
 
 -- An accepted program has its numbers, under any weights.
 abbrev pub NumbersExist : Type 0
-NumbersExist = (g : Graph) (l : Loops) (extent : ℕ → ℕ → Bool) (w : ℕ → ℕ) → IsProgram g → AreAccepted g l extent → (n : Numbers) × AreNumbers g l w n
+NumbersExist = (g : Graph) (l : Loops) (extent : ℕ → ℕ → Bool) (w : ℕ → ℕ) → IsProgram g → AreAccepted g l extent → (n : Numbers) ×
+    AreNumbers g l w n
 
 -- And only these.
 abbrev pub NumbersAgree : Type 0
@@ -167,12 +168,14 @@ abbrev pub StepAlong : Type 0
 StepAlong = (g : Graph) (l : Loops) (extent : ℕ → ℕ → Bool) (w : ℕ → ℕ) (n : Numbers) → IsAnalyzed g l extent w n →
     (ms : List Transition) (e : ℕ) → AreKept g l (graph_start g) ms → IsKept g l (state_after g l ms) (Along e) →
     cycles_left g l w n (state_after g l ms) ≡
-    w e + slack g l n (cost g n w) e + cycles_left g l w n (after g l (state_after g l ms) (Along e)) + left_behind g l n (state_after g l ms).counts e
+    w e + slack g l n (cost g n w) e + cycles_left g l w n (after g l (state_after g l ms) (Along e)) + left_behind g l n
+    (state_after g l ms).counts e
 
 -- A call that comes back lowers them by exactly its weight.
 abbrev pub StepCall : Type 0
 StepCall = (g : Graph) (l : Loops) (extent : ℕ → ℕ → Bool) (w : ℕ → ℕ) (n : Numbers) → IsAnalyzed g l extent w n →
-    (ms : List Transition) (e f : ℕ) → AreKept g l (graph_start g) ms → IsKept g l (state_after g l ms) (Call e f) → IsSome (next_edge g (g.source e)) →
+    (ms : List Transition) (e f : ℕ) → AreKept g l (graph_start g) ms → IsKept g l (state_after g l ms) (Call e f) →
+    IsSome (next_edge g (g.source e)) →
     cycles_left g l w n (state_after g l ms) ≡ w e + cycles_left g l w n (after g l (state_after g l ms) (Call e f))
 
 -- The cycles of a kept run and those left after it are at most the worst cycles.
@@ -195,7 +198,8 @@ LeftWithinRest = (g : Graph) (l : Loops) (extent : ℕ → ℕ → Bool) (w : �
 abbrev pub LeftWithinRestOfTurns : Type 0
 LeftWithinRestOfTurns = (g : Graph) (l : Loops) (extent : ℕ → ℕ → Bool) (w : ℕ → ℕ) (n : Numbers) → IsAnalyzed g l extent w n →
     (ms : List Transition) (e : ℕ) → AreKept g l (graph_start g) ms → IsKept g l (state_after g l ms) (Along e) →
-    cycles_left g l w n (after g l (state_after g l ms) (Along e)) + turns_taken l n (after g l (state_after g l ms) (Along e)).counts (g.target e) ≤ rest g l n e
+    cycles_left g l w n (after g l (state_after g l ms) (Along e)) + turns_taken l n (after g l (state_after g l ms) (Along e)).counts
+    (g.target e) ≤ rest g l n e
 
 -- and after a return at most the rest behind the edge by which the call comes back.
 abbrev pub LeftWithinRestOfReturn : Type 0
@@ -209,6 +213,8 @@ LeftWithinRestOfReturn = (g : Graph) (l : Loops) (extent : ℕ → ℕ → Bool)
 -- Where each loop is left only after its least number of turns, a walk costs at least the least charged cost of its kind.
 abbrev pub TurnsTakeLeast : Type 0
 TurnsTakeLeast = (g : Graph) (l : Loops) (extent : ℕ → ℕ → Bool) (c least turn : ℕ → ℕ) → IsProgram g → AreAccepted g l extent →
-    ((k : ℕ) → k < l.loops → 0 < least k → (t : ℕ → Option ℕ) × IsKind g l c least turn (turn_last g l k) (turn_step g l k) t × (t (l.header k) ≡ Some (turn k))) →
+    ((k : ℕ) → k < l.loops → 0 < least k → (t : ℕ → Option ℕ) × IsKind g l c least turn (turn_last g l k) (turn_step g l k) t ×
+    (t (l.header k) ≡ Some (turn k))) →
     (last step : ℕ → Bool) (t : ℕ → Option ℕ) → IsKind g l c least turn last step t →
-    (es : List ℕ) (v : ℕ) (counts : ℕ → ℕ) → IsRun g false last step (Some v) es → KeepsLeast g l least counts es → IsUpTo (t v) (total c es)
+    (es : List ℕ) (v : ℕ) (counts : ℕ → ℕ) → IsRun g false last step (Some v) es → KeepsLeast g l least counts es →
+    IsUpTo (t v) (total c es)

@@ -25,7 +25,8 @@ LeadsTo flow.Refused v u = ⊥
 pub data Reached (word : ℕ → Flow) (first : ℕ) : ℕ → ℕ → Type 0 where
   main : Reached word first first first
   onward : {f v : ℕ} (u : ℕ) → Reached word first f v → LeadsTo (word v) v u → Reached word first f u
-  back : {f v : ℕ} (h r : ℕ) → Reached word first f v → word v ≡ flow.Call h → Reached word first h r → word r ≡ flow.Return → Reached word first f (v + 4)
+  back : {f v : ℕ} (h r : ℕ) → Reached word first f v → word v ≡ flow.Call h → Reached word first h r → word r ≡ flow.Return →
+      Reached word first f (v + 4)
   called : {f v : ℕ} (h : ℕ) → Reached word first f v → word v ≡ flow.Call h → Reached word first h h
 
 -- a function that returns

@@ -86,5 +86,6 @@ owed g l n v counts = sum_below l.loops (λ k. only (is_header l k (Some v)) ((c
 
 -- What is so of the graph of reached code: a call comes back to one node, and nothing leads on from a return.
 pub record HasPlainReturns (g : Graph) : Type 0 where
-  pub one_return : (d e f u v : ℕ) → d < g.edges → e < g.edges → g.source d ≡ g.source e → g.callee d ≡ Some f → g.target d ≡ Some u → g.target e ≡ Some v → u ≡ v
+  pub one_return : (d e f u v : ℕ) → d < g.edges → e < g.edges → g.source d ≡ g.source e → g.callee d ≡ Some f → g.target d ≡ Some u →
+      g.target e ≡ Some v → u ≡ v
   pub return_last : (d e : ℕ) → d < g.edges → e < g.edges → g.source d ≡ g.source e → g.returns d ≡ true → g.target e ≡ None

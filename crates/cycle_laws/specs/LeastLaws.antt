@@ -1,4 +1,4 @@
--- The laws of the least cycles with charged loops, as statements for the contracts of functions.
+-- Scaffold: the laws of the least cycles with charged loops, as statements for the contracts of functions.
 use Rattle.std.specs.Prelude.{◌≡◌, ◌≢◌, ℕ, ◌+◌, ◌*◌, ◌<◌, ◌≤◌, Bool, true, false, ◌⊎◌, List, ◌∷◌, ◌++◌, Option, Some, None, option_map}
 use Rattle.cost_theory.specs.Graph.{Graph, Loops, total, sum_below, only, enters, is_back, next_edge}
 use Rattle.cost_theory.specs.Worst.{Numbers, AreNumbers, all_of}
@@ -29,17 +29,20 @@ pub record AreAlike (l : Loops) (n n' : Charged) : Type 0 where
 
 -- An accepted program has such numbers, under any weights,
 abbrev pub ChargedExist : Type 0
-ChargedExist = (g : Graph) (l : Loops) (extent : ℕ → ℕ → Bool) (w : ℕ → ℕ) → IsProgram g → AreAccepted g l extent → (n : Charged) × AreCharged g l w n
+ChargedExist = (g : Graph) (l : Loops) (extent : ℕ → ℕ → Bool) (w : ℕ → ℕ) → IsProgram g → AreAccepted g l extent → (n : Charged) ×
+    AreCharged g l w n
 
 -- and no others.
 abbrev pub ChargedAgree : Type 0
-ChargedAgree = (g : Graph) (l : Loops) (extent : ℕ → ℕ → Bool) (w : ℕ → ℕ) (n n' : Charged) → IsCharged g l extent w n → AreCharged g l w n' → AreAlike l n n'
+ChargedAgree = (g : Graph) (l : Loops) (extent : ℕ → ℕ → Bool) (w : ℕ → ℕ) (n n' : Charged) → IsCharged g l extent w n →
+    AreCharged g l w n' → AreAlike l n n'
 
 -- REACHED CODE
 
 -- In the graph over reached code a call comes back to one node, and nothing leads on from a return.
 abbrev pub ReachedCodeHasPlainReturns : Type 0
-ReachedCodeHasPlainReturns = (word : ℕ → Flow) (first : ℕ) (code : Code) → IsCodeOf word first code → HasNoBadWord word first → HasPlainReturns (graph_of word code)
+ReachedCodeHasPlainReturns = (word : ℕ → Flow) (first : ℕ) (code : Code) → IsCodeOf word first code → HasNoBadWord word first →
+    HasPlainReturns (graph_of word code)
 
 -- CHARGES
 
@@ -56,7 +59,8 @@ LeastChargedBack = (g : Graph) (l : Loops) (extent : ℕ → ℕ → Bool) (w : 
 -- and an edge that enters a loop from outside is charged the turns that it has to take.
 abbrev pub LeastChargedInto : Type 0
 LeastChargedInto = (g : Graph) (l : Loops) (extent : ℕ → ℕ → Bool) (w : ℕ → ℕ) (n : Charged) → IsCharged g l extent w n →
-    (e k : ℕ) → e < g.edges → k < l.loops → g.target e ≡ Some (l.header k) → is_back g l k e ≡ false → charge_of g l n e ≡ charged_trips g l n.least k * n.turn k
+    (e k : ℕ) → e < g.edges → k < l.loops → g.target e ≡ Some (l.header k) → is_back g l k e ≡ false →
+    charge_of g l n e ≡ charged_trips g l n.least k * n.turn k
 
 -- ONE EDGE
 
@@ -102,22 +106,26 @@ HaveFewTrips l = (k : ℕ) → k < l.loops → l.least_trips k ≤ l.bound k
 
 -- Then the least cost of one turn is at most the greatest of one iteration,
 abbrev pub TurnWithinIteration : Type 0
-TurnWithinIteration = (g : Graph) (l : Loops) (extent : ℕ → ℕ → Bool) (w : ℕ → ℕ) (n : Charged) (a : Numbers) → IsCharged g l extent w n → AreNumbers g l w a → HaveFewTrips l →
+TurnWithinIteration = (g : Graph) (l : Loops) (extent : ℕ → ℕ → Bool) (w : ℕ → ℕ) (n : Charged) (a : Numbers) → IsCharged g l extent w n →
+    AreNumbers g l w a → HaveFewTrips l →
     (k : ℕ) → k < l.loops → n.turn k ≤ a.iteration k
 
 -- what an edge is charged with least trips is at most what it is charged with all turns,
 abbrev pub ChargeWithinTurns : Type 0
-ChargeWithinTurns = (g : Graph) (l : Loops) (extent : ℕ → ℕ → Bool) (w : ℕ → ℕ) (n : Charged) (a : Numbers) → IsCharged g l extent w n → AreNumbers g l w a → HaveFewTrips l →
+ChargeWithinTurns = (g : Graph) (l : Loops) (extent : ℕ → ℕ → Bool) (w : ℕ → ℕ) (n : Charged) (a : Numbers) → IsCharged g l extent w n →
+    AreNumbers g l w a → HaveFewTrips l →
     (e : ℕ) → e < g.edges → charge_of g l n e ≤ sum_below l.loops (λ k. only (enters l k (g.source e) (g.target e)) (all_of l a k))
 
 -- which are at most the program's worst cycles,
 abbrev pub ChargeWithinWorst : Type 0
-ChargeWithinWorst = (g : Graph) (l : Loops) (extent : ℕ → ℕ → Bool) (w : ℕ → ℕ) (n : Charged) (a : Numbers) → IsCharged g l extent w n → AreNumbers g l w a → HaveFewTrips l →
+ChargeWithinWorst = (g : Graph) (l : Loops) (extent : ℕ → ℕ → Bool) (w : ℕ → ℕ) (n : Charged) (a : Numbers) → IsCharged g l extent w n →
+    AreNumbers g l w a → HaveFewTrips l →
     (e : ℕ) → e < g.edges → charge_of g l n e ≤ a.worst 0
 
 -- and the least cycles from a function's entry to a return are at most its worst cycles.
 abbrev pub ReturnWithinWorst : Type 0
-ReturnWithinWorst = (g : Graph) (l : Loops) (extent : ℕ → ℕ → Bool) (w : ℕ → ℕ) (n : Charged) (a : Numbers) → IsCharged g l extent w n → AreNumbers g l w a → HaveFewTrips l →
+ReturnWithinWorst = (g : Graph) (l : Loops) (extent : ℕ → ℕ → Bool) (w : ℕ → ℕ) (n : Charged) (a : Numbers) → IsCharged g l extent w n →
+    AreNumbers g l w a → HaveFewTrips l →
     (f r : ℕ) → f < g.functions → n.least.to_return (g.entry f) ≡ Some r → r ≤ a.worst f
 
 -- Where an edge that leads on costs at most some number, which is also at least each weight, the least cycles to an end are at most that number,
@@ -129,7 +137,8 @@ EndWithin = (g : Graph) (l : Loops) (extent : ℕ → ℕ → Bool) (w : ℕ →
 
 -- The least cost of a run of a kind is at most as many times the greatest cost of an edge as there are edges.
 abbrev pub LeastWithinEdges : Type 0
-LeastWithinEdges = (g : Graph) (last step : ℕ → Bool) (c : ℕ → ℕ) (v x most : ℕ) → IsLeastIfAny (IsRun g false last step (Some v)) (total c) (Some x) →
+LeastWithinEdges = (g : Graph) (last step : ℕ → Bool) (c : ℕ → ℕ) (v x most : ℕ) →
+    IsLeastIfAny (IsRun g false last step (Some v)) (total c) (Some x) →
     ((e : ℕ) → e < g.edges → c e ≤ most) → x ≤ g.edges * most
 
 -- RUNS
@@ -157,4 +166,5 @@ ExitTakesLeastBehindReturn = (g : Graph) (l : Loops) (extent : ℕ → ℕ → B
 -- So along a kept run that exits, what follows a step within a function takes at least the least cycles behind its edge.
 abbrev pub RunTakesLeastBehind : Type 0
 RunTakesLeastBehind = (g : Graph) (l : Loops) (extent : ℕ → ℕ → Bool) (w : ℕ → ℕ) (n : Charged) → IsCharged g l extent w n →
-    (ms more : List Transition) (e : ℕ) → AreKept g l (graph_start g) (ms ++ Along e ∷ more) → EndsByExit more → IsUpTo (to_end_after g l n e) (cycles w more)
+    (ms more : List Transition) (e : ℕ) → AreKept g l (graph_start g) (ms ++ Along e ∷ more) → EndsByExit more →
+    IsUpTo (to_end_after g l n e) (cycles w more)

@@ -1,4 +1,4 @@
--- What shows that the hypotheses of the laws are met together: an accepted program with a loop that has to turn twice, its least cycles, and a
+-- Scaffold: what shows that the hypotheses of the laws are met together: an accepted program with a loop that has to turn twice, its least cycles, and a
 -- kept run of it that turns so often and exits.
 use Rattle.std.specs.Prelude.{◌≡◌, ℕ, Bool, List}
 use Rattle.cost_theory.specs.Graph.{Graph, Loops}

@@ -1,4 +1,4 @@
--- How the numbers of an accepted program follow from one another over one edge at a time: the statements by which a pass over
+-- Scaffold: how the numbers of an accepted program follow from one another over one edge at a time: the statements by which a pass over
 -- the nodes, backwards along plain edges, finds them.
 use Rattle.std.specs.Prelude.{◌≡◌, ◌≢◌, ℕ, ◌+◌, ◌<◌, ◌≤◌, Bool, true, false, ◌⊎◌, Option, Some, None}
 use Rattle.cost_theory.specs.Graph.{Graph, Loops, IsPlain, is_back}

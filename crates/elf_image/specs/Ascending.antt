@@ -1,4 +1,4 @@
--- Ranges in ascending order.
+-- Scaffold: ranges in ascending order.
 use Rattle.std.specs.Prelude.{ℕ, ◌<◌, ◌≤◌, List, [], ◌∷◌, ⊤}
 use Rattle.scale_base.specs.declared.ranges.Range.{Range}
 

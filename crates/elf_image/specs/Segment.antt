@@ -1,4 +1,4 @@
--- A segment of a view as the image has it.
+-- Scaffold: a segment of a view as the image has it.
 use Rattle.scale_base.specs.Image.{LoadSegment}
 use Rattle.elf_image.specs.declared.view.Segment.{Segment}
 

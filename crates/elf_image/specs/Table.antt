@@ -1,4 +1,4 @@
--- The bytes of a symbol table.
+-- Scaffold: the bytes of a symbol table.
 use Rattle.std.specs.Prelude.{◌≡◌, ℕ, ◌+◌, ◌*◌, ◌==◌, not, Bool, List}
 use Rattle.scale_base.specs.Bytes.{list_half_at}
 use Rattle.scale_base.specs.Symbols.{symbol_value, value_in}

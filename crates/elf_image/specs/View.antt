@@ -1,4 +1,4 @@
--- What the fields of a view keep.
+-- Scaffold: what the fields of a view keep.
 use Rattle.std.specs.Prelude.{◌≡◌, ℕ, ◌≤◌, ◌+◌, length, List, Option, All, is_some}
 use Rattle.scale_base.specs.declared.headers.ProgramHeader.{ProgramHeader}
 use Rattle.scale_base.specs.declared.ranges.Keyed.{Keyed}

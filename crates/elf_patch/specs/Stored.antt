@@ -111,4 +111,5 @@ stored_table file place base start len =
 -- the stored image of a file
 unfoldable pub stored_image : List ℕ → List Patch → ℕ → List ℕ → ℕ → List ℕ
 stored_image file patches base block start =
-    changed file patches (block_start file + length block) ++ replicate (block_start file - length file) 0 ++ block ++ stored_table file (block_start file) base start (length block)
+    changed file patches (block_start file + length block) ++ replicate (block_start file - length file) 0 ++ block ++ stored_table file
+    (block_start file) base start (length block)

@@ -1,4 +1,4 @@
--- Ranges as they are read, and one more part of the text beside them.
+-- Scaffold: ranges as they are read, and one more part of the text beside them.
 use Rattle.std.specs.Prelude.{ℕ, ◌+◌, List, [], ◌∷◌, map, Bool, ◌&&◌, ◌||◌, nat_le, Option, Some, None}
 use Rattle.std.specs.BTreeMap.{BTreeMap}
 use Rattle.std.specs.List.{list_all}

@@ -152,7 +152,8 @@ impl TextSoFar {
         requires ascending { AscendFrom 0 (ranges_by self.old.ends) }
         requires few { self.old.bytes ≤ 524288 }
         ensures fits { IfOk result (λ fits. fits ≡ fits_beside bytes.now segments.now (ranges_by self.old.ends) self.old.bytes part.now) }
-        ensures ranges { IfOk result (λ fits. OnTrue fits (ranges_by self.new.ends ≡ image.insert_range (ranges_by self.old.ends) (image.range_of part.now))) }
+        ensures ranges { IfOk result (λ fits. OnTrue fits (ranges_by self.new.ends ≡ image.insert_range (ranges_by self.old.ends)
+            (image.range_of part.now))) }
         ensures bytes { IfOk result (λ fits. OnTrue fits (self.new.bytes ≡ self.old.bytes + part.now.span.len)) }
         ensures kept { IfOk result (λ fits. OnTrue fits (AscendFrom 0 (ranges_by self.new.ends))) }
         ensures err { IfErr result (λ stop. stop ≡ Stop.Memory) }
@@ -186,7 +187,8 @@ impl TextSoFar {
         ensures rules { MatchResult result
             (λ _. AllHold (next_rules bytes.now segments.now (ranges_by self.old.ends) self.old.bytes part))
             (IsStop (next_rules bytes.now segments.now (ranges_by self.old.ends) self.old.bytes part)) }
-        ensures ranges { OnOk result (ranges_by self.new.ends ≡ fold image.insert_range (ranges_by self.old.ends) (map image.range_of (cons_option part []))) }
+        ensures ranges { OnOk result (ranges_by self.new.ends ≡ fold image.insert_range (ranges_by self.old.ends)
+            (map image.range_of (cons_option part []))) }
         ensures bytes { OnOk result (self.new.bytes ≡ self.old.bytes + sum_by (λ p. p.span.len) (cons_option part [])) }
         ensures kept { OnOk result (AscendFrom 0 (ranges_by self.new.ends)) }
     {
@@ -211,7 +213,8 @@ fn section_ends(
     requires low { All (λ h. h.p_vaddr + h.p_filesz < 2 ^ 32) segments.now }
     ensures rules { let parts = filter_map image.text_of_section (elf.section_headers bytes.now) in
         MatchResult result (λ _. AllHold (image.part_rules bytes.now segments.now parts)) (IsStop (image.part_rules bytes.now segments.now parts)) }
-    ensures ranges { IfOk result (λ ends. ranges_by ends ≡ image.ranges_of (filter_map image.text_of_section (elf.section_headers bytes.now))) }
+    ensures ranges { IfOk result (λ ends. ranges_by ends ≡ image.ranges_of (filter_map image.text_of_section
+        (elf.section_headers bytes.now))) }
     ensures ascending { IfOk result (λ ends. AscendFrom 0 (ranges_by ends)) }
 {
     let mut text = TextSoFar::new(alloc);

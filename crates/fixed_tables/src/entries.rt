@@ -57,7 +57,8 @@ pub fn entries_of(
     table: Table,
 ) -> Result<Option<Vec<u32>>, NoMemory>
     ensures size { IfOk result (λ found. IfSome found (λ entries. length entries.items ≡ table.count)) }
-    ensures entries { IfOk result (λ found. IfSome found (λ entries. (k : ℕ) → k < table.count → IsEntry view.now table k (slice_index entries.items k))) }
+    ensures entries { IfOk result (λ found. IfSome found (λ entries. (k : ℕ) → k < table.count →
+        IsEntry view.now table k (slice_index entries.items k))) }
 {
     let mut entries = Vec::new(alloc);
     for k in 0..table.count {

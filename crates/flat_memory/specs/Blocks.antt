@@ -1,4 +1,4 @@
--- What blocks stand for: bytes, and parts of a layout.
+-- Scaffold: what blocks stand for: bytes, and parts of a layout.
 use Rattle.std.specs.Prelude.{◌≡◌, ℕ, Bool, ◌-◌, ◌&&◌, not, List, [], ◌∷◌, map, filter, slice_index, slice_set, vec_len, if◌then◌else◌}
 use Rattle.scale_base.specs.declared.ranges.Span.{Span}
 use Rattle.scale_base.specs.Spans.{in_span}

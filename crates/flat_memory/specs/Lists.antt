@@ -1,4 +1,4 @@
--- What a memory of lists stands for.
+-- Scaffold: what a memory of lists stands for.
 use Rattle.std.specs.Prelude.{ℕ, ◌-◌, List, slice_index, if◌then◌else◌}
 use Rattle.scale_base.specs.Image.{STACK_START}
 use Rattle.scale_base.specs.Layout.{Layout, in_stack}

@@ -1,4 +1,4 @@
--- Blocks as they are loaded.
+-- Scaffold: blocks as they are loaded.
 use Rattle.std.specs.Prelude.{◌≡◌, ℕ, ◌+◌, ◌&&◌, not, nat_lt, length, List, [], ◌∷◌, map, vec_len, ⊤, if◌then◌else◌}
 use Rattle.std.specs.List.{range_with_len}
 use Rattle.scale_base.specs.Bytes.{byte_at}

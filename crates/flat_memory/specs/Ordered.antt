@@ -1,4 +1,4 @@
--- Ranges in order, which a search by halving may use.
+-- Scaffold: ranges in order, which a search by halving may use.
 use Rattle.std.specs.Prelude.{◌≡◌, ℕ, ◌+◌, ◌<◌, ◌≤◌, Bool, ◌&&◌, ◌||◌, true, nat_le, List, length, map, slice_index_or}
 use Rattle.scale_base.specs.declared.ranges.Range.{Range}
 use Rattle.scale_base.specs.declared.ranges.Span.{Span}

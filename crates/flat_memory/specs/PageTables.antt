@@ -1,4 +1,4 @@
--- Pages by their numbers, the addresses by 4,096.
+-- Scaffold: pages by their numbers, the addresses by 4,096.
 use Rattle.std.specs.Prelude.{◌≡◌, ℕ, ◌/◌, ◌%◌, Bool, is_some, List, [], slice_index, slice_index_or, Option, Some, None, if◌then◌else◌}
 use Rattle.flat_memory.specs.declared.page.PageUse.{PageUse}
 use Rattle.flat_memory.specs.declared.page.PageUse.TheVariants.{Mixed}

@@ -1,4 +1,4 @@
--- What a memory of pages stands for.
+-- Scaffold: what a memory of pages stands for.
 use Rattle.std.specs.Prelude.{ℕ}
 use Rattle.scale_base.specs.Layout.{Layout}
 use Rattle.flat_memory.specs.Lists.{list_bytes, list_layout}

@@ -1,4 +1,4 @@
--- What pages stand for: bytes, and who may use them.
+-- Scaffold: what pages stand for: bytes, and who may use them.
 use Rattle.std.specs.Prelude.{◌≡◌, ℕ, ◌+◌, ◌*◌, ◌/◌, ◌%◌, ◌^◌, ◌<◌, Bool, true, false, List, slice_index, slice_index_or, slice_set, Option, Some, None}
 use Rattle.scale_base.specs.Layout.{Layout, may_read, may_write, may_fetch}
 use Rattle.flat_memory.specs.declared.page.PageUse.{PageUse}
@@ -39,7 +39,8 @@ put_byte bytes place value = slice_set bytes place value
 -- the four bytes of a word, the lowest first
 abbrev pub put_word : List ℕ → ℕ → ℕ → List ℕ
 put_word bytes place value =
-    slice_set (slice_set (slice_set (slice_set bytes place (value % 256)) (place + 1) (value / 2 ^ 8 % 256)) (place + 2) (value / 2 ^ 16 % 256)) (place + 3) (value / 2 ^ 24 % 256)
+    slice_set (slice_set (slice_set (slice_set bytes place (value % 256)) (place + 1) (value / 2 ^ 8 % 256)) (place + 2)
+    (value / 2 ^ 16 % 256)) (place + 3) (value / 2 ^ 24 % 256)
 
 -- the page with other bytes
 pub record HasBytes (old new : Page) (bytes : List ℕ) : Type 0 where

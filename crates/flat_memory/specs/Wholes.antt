@@ -1,4 +1,4 @@
--- What holds of all the addresses of a page.
+-- Scaffold: what holds of all the addresses of a page.
 use Rattle.std.specs.Prelude.{◌≡◌, ℕ, ◌+◌, ◌*◌, ◌<◌, ◌≤◌, Bool, false, List, slice_index, slice_index_or, Option, Some, None}
 use Rattle.std.specs.List.{list_any}
 use Rattle.scale_base.specs.Image.{PF_R, PF_W}
@@ -28,4 +28,5 @@ MayBePageOf list n (Some p) = IsPageOf list n p
 
 abbrev pub MayBeGroupOf : ListMemory → ℕ → Option PageGroup → Type 0
 MayBeGroupOf list m None = Unit {0}
-MayBeGroupOf list m (Some g) = (j : ℕ) (o : Option Page) → j < 1024 → o ≡ slice_index_or g.pages.items j o → MayBePageOf list (m * 1024 + j) o
+MayBeGroupOf list m (Some g) = (j : ℕ) (o : Option Page) → j < 1024 → o ≡ slice_index_or g.pages.items j o →
+    MayBePageOf list (m * 1024 + j) o

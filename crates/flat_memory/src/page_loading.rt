@@ -37,7 +37,8 @@ fn touches(block: &Block, from: u32, last: u32) -> bool
 /// Whether the stack or a block has an address from one to another.
 fn is_used(list: &ListMemory, from: u32, last: u32) -> bool
     requires { from ≤ last }
-    ensures { (result ≡ true) ↔ ((a : ℕ) × (from ≤ a) × (a ≤ last) × ((rules.in_stack a || list_any (holds a) list.now.blocks.items) ≡ true)) }
+    ensures { (result ≡ true) ↔ ((a : ℕ) × (from ≤ a) × (a ≤ last) × ((rules.in_stack a || list_any (holds a) list.now.blocks.items) ≡
+        true)) }
 {
     for block in &list.blocks {
         if touches(block, from, last) {
@@ -126,7 +127,8 @@ fn load_group(alloc: Global, list: &ListMemory, number: u32) -> Result<Option<Pa
 }
 
 fn load_table(alloc: Global, list: &ListMemory) -> Result<PageTable, NoMemory>
-    ensures { IfOk result (λ t. (m : ℕ) (o : Option PageGroup) → m < 1024 → o ≡ slice_index_or t.groups.items m o → MayBeGroupOf list.now m o) }
+    ensures { IfOk result (λ t. (m : ℕ) (o : Option PageGroup) → m < 1024 → o ≡ slice_index_or t.groups.items m o →
+        MayBeGroupOf list.now m o) }
 {
     let mut groups = Vec::with_capacity(alloc, 1024)?;
     for k in 0..1024 {

@@ -32,7 +32,8 @@ impl PageGroup {
         requires page { k < 1024 }
         requires place { place < 4096 }
         ensures found { result ≡ is_some (slice_index_or self.old.pages.items k None) }
-        ensures put { IsPut (slice_index_or self.old.pages.items k None) (slice_index_or self.new.pages.items k None) (λ xs. put_byte xs place value) }
+        ensures put { IsPut (slice_index_or self.old.pages.items k None) (slice_index_or self.new.pages.items k None)
+            (λ xs. put_byte xs place value) }
         ensures others { (j : ℕ) → (j ≡ k → ⊥) → slice_index_or self.new.pages.items j None ≡ slice_index_or self.old.pages.items j None }
     {
         match &mut self.pages[k] {
@@ -50,7 +51,8 @@ impl PageGroup {
         requires page { k < 1024 }
         requires place { place + 4 ≤ 4096 }
         ensures found { result ≡ is_some (slice_index_or self.old.pages.items k None) }
-        ensures put { IsPut (slice_index_or self.old.pages.items k None) (slice_index_or self.new.pages.items k None) (λ xs. put_word xs place value) }
+        ensures put { IsPut (slice_index_or self.old.pages.items k None) (slice_index_or self.new.pages.items k None)
+            (λ xs. put_word xs place value) }
         ensures others { (j : ℕ) → (j ≡ k → ⊥) → slice_index_or self.new.pages.items j None ≡ slice_index_or self.old.pages.items j None }
     {
         match &mut self.pages[k] {

@@ -32,8 +32,10 @@ pub record IsBlock (v : FlowGraph) (block : Range) : Type 0 where
 -- The blocks of a graph, in ascending order and apart. Each node is in exactly one, and no two of them together are a block.
 pub record AreBlocks (v : FlowGraph) (blocks : List Range) : Type 0 where
   pub each : (b : ℕ) (block : Range) → slice_get blocks b ≡ Some block → IsBlock v block
-  pub ascending : (b c : ℕ) (one other : Range) → b < c → slice_get blocks b ≡ Some one → slice_get blocks c ≡ Some other → one.to ≤ other.from
+  pub ascending : (b c : ℕ) (one other : Range) → b < c → slice_get blocks b ≡ Some one → slice_get blocks c ≡ Some other →
+      one.to ≤ other.from
   pub whole : (a : ℕ) → IsNode (graph v) a → (b : ℕ) × (block : Range) × (slice_get blocks b ≡ Some block) × IsInBlock block a
-  pub once : (a b c : ℕ) (one other : Range) → slice_get blocks b ≡ Some one → slice_get blocks c ≡ Some other → IsInBlock one a → IsInBlock other a → b ≡ c
+  pub once : (a b c : ℕ) (one other : Range) → slice_get blocks b ≡ Some one → slice_get blocks c ≡ Some other → IsInBlock one a →
+      IsInBlock other a → b ≡ c
   pub largest : (b c : ℕ) (one other : Range) → slice_get blocks b ≡ Some one → slice_get blocks c ≡ Some other → one.to ≡ other.from →
       IsBlock v (record { from = one.from; to = other.to }) → ⊥

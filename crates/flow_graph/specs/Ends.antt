@@ -1,4 +1,4 @@
--- The ends of a graph's edges by the numbers of nodes.
+-- Scaffold: the ends of a graph's edges by the numbers of nodes.
 use Rattle.std.specs.Prelude.{◌≡◌, ℕ, ◌<◌, List, length, slice_get, Option, Some, None}
 use Rattle.flow_graph.specs.FlowGraph.{FlowGraph, graph}
 

@@ -1,4 +1,4 @@
--- What the lists of a CodeGraph keep.
+-- Scaffold: what the lists of a CodeGraph keep.
 use Rattle.std.specs.Prelude.{◌≡◌, ℕ, ◌+◌, ◌<◌, ◌≤◌, List, length, map, slice_get, slice_index, Option}
 use Rattle.scale_base.specs.declared.edges.Edge.{Edge}
 use Rattle.cost_theory.specs.Reached.{edge_at, callee_of}
@@ -22,7 +22,8 @@ pub record AreFirsts (n : ℕ) (nodes : List ℕ) (edges : List Edge) (firsts : 
   pub size : length firsts ≡ n + 1
   pub last : slice_index firsts n ≡ length edges
   pub rising : (j k : ℕ) → j ≤ k → k ≤ n → slice_index firsts j ≤ slice_index firsts k
-  pub own : (k e : ℕ) → k < n → slice_index firsts k ≤ e → e < slice_index firsts (k + 1) → edge_at (slice_get edges e) ≡ slice_index nodes k
+  pub own : (k e : ℕ) → k < n → slice_index firsts k ≤ e → e < slice_index firsts (k + 1) →
+      edge_at (slice_get edges e) ≡ slice_index nodes k
   pub whole : (e : ℕ) → e < length edges → (k : ℕ) × (k < n) × (slice_index firsts k ≤ e) × (e < slice_index firsts (k + 1))
 
 -- a graph of limited size, by node the function that is called, the numbers of the nodes' first edges, and the ends of edges

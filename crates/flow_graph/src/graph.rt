@@ -141,7 +141,8 @@ impl CodeGraph {
     pub fn edges_of(&self, k: usize) -> (usize, usize)
         requires { k < length self.now.code.nodes }
         ensures within { (result.0 < result.1) × (result.1 ≤ length self.now.code.edges) }
-        ensures edges { (e : ℕ) → e < length self.now.code.edges → (edge_at (slice_get self.now.code.edges e) ≡ slice_index self.now.code.nodes k) ↔ ((result.0 ≤ e) × (e < result.1)) }
+        ensures edges { (e : ℕ) → e < length self.now.code.edges → (edge_at (slice_get self.now.code.edges e) ≡ slice_index
+            self.now.code.nodes k) ↔ ((result.0 ≤ e) × (e < result.1)) }
     {
         (self.lists.firsts[k], self.lists.firsts[k + 1])
     }

@@ -1,4 +1,4 @@
--- The first edge on which a counter counts, and how far it counts.
+-- Scaffold: the first edge on which a counter counts, and how far it counts.
 use Rattle.std.specs.Prelude.{◌≡◌, ℕ, ◌<◌, ◌==◌, nat_lt, ◌&&◌, ◌||◌, Bool, true, false, if◌then◌else◌, List, [], length, slice_get, slice_index, Option, Some, None}
 use Rattle.std.specs.List.{list_any}
 use Rattle.scale_base.specs.declared.edges.Edge.{Edge}
@@ -61,14 +61,17 @@ IsFirstOfEdges edges Is n None = (e : ℕ) → e < n → Is e → ⊥
 IsFirstOfEdges edges Is n (Some b) = (b < n) × Is b × ((e : ℕ) → e < n → Is e → is_before edges e b ≡ false)
 
 abbrev pub AreFirstsBelow : List Edge → List (Option ℕ) → (ℕ → List ForeignFragment) → ℕ → List (Option ℕ) → Type 0
-AreFirstsBelow edges backs on n firsts = (c : ℕ) (o : Option ℕ) → slice_get firsts c ≡ Some o → IsFirstOfEdges edges (CountsOn backs on c) n o
+AreFirstsBelow edges backs on n firsts = (c : ℕ) (o : Option ℕ) → slice_get firsts c ≡ Some o →
+    IsFirstOfEdges edges (CountsOn backs on c) n o
 
 -- the first edges with one fragment more, and with more of them
 abbrev pub IsTaken : List Edge → (old new : List (Option ℕ)) → ForeignFragment → ℕ → Type 0
-IsTaken edges old new f e = (c : ℕ) (o : Option ℕ) → slice_get old c ≡ Some o → slice_get new c ≡ Some (first_with edges (counts_with c f) o e)
+IsTaken edges old new f e = (c : ℕ) (o : Option ℕ) → slice_get old c ≡ Some o →
+    slice_get new c ≡ Some (first_with edges (counts_with c f) o e)
 
 abbrev pub AreTaken : List Edge → (old new : List (Option ℕ)) → List ForeignFragment → ℕ → Type 0
-AreTaken edges old new fs e = (c : ℕ) (o : Option ℕ) → slice_get old c ≡ Some o → slice_get new c ≡ Some (first_with edges (count_in c fs) o e)
+AreTaken edges old new fs e = (c : ℕ) (o : Option ℕ) → slice_get old c ≡ Some o →
+    slice_get new c ≡ Some (first_with edges (count_in c fs) o e)
 
 abbrev pub bound_at : List ℕ → Option (Option ℕ) → ℕ
 bound_at bounds (Some (Some k)) = slice_index bounds k
@@ -85,7 +88,8 @@ AreEdgesWithin n firsts = (c e : ℕ) → slice_get firsts c ≡ Some (Some e) �
 
 -- by counter, how far it counts
 abbrev pub AreCountLimits : List Edge → List (Option ℕ) → List ℕ → (ℕ → List ForeignFragment) → List ℕ → Type 0
-AreCountLimits edges backs bounds on limits = (c n : ℕ) → slice_get limits c ≡ Some n → (o : Option ℕ) × IsFirstOfEdges edges (CountsOn backs on c) (length edges) o × (n ≡ limit_of backs bounds o)
+AreCountLimits edges backs bounds on limits = (c n : ℕ) → slice_get limits c ≡ Some n → (o : Option ℕ) ×
+    IsFirstOfEdges edges (CountsOn backs on c) (length edges) o × (n ≡ limit_of backs bounds o)
 
 -- the lists go together, with so many sites
 pub record AreSized (lists : GraphLists) (sites : ℕ) : Type 0 where

@@ -89,7 +89,8 @@ pub record IsFork (image : Image) (v stub : ℕ) (branch : ℤ → Instr) (to : 
 
 -- The stub at an address of the instruction at v, with the fragments of each edge of it.
 abbrev pub IsStub : Image → (v stub : ℕ) → Instr → (EdgeKind → List ForeignFragment) → Type 0
-IsStub image v stub (instr.Branch op rs1 rs2 offset) found = IsFork image v stub (instr.Branch op rs1 rs2) (moved_by v offset) (found Untaken) (found Taken)
+IsStub image v stub (instr.Branch op rs1 rs2 offset) found = IsFork image v stub (instr.Branch op rs1 rs2) (moved_by v offset)
+    (found Untaken) (found Taken)
 IsStub image v stub (instr.Jal rd offset) found = IsRunOut image stub (moved_by v offset) (found Jump)
 IsStub image v stub i found = ⊥
 

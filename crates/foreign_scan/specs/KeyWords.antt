@@ -1,4 +1,4 @@
--- The words of the keyed segment, in a list, and what is read from them.
+-- Scaffold: the words of the keyed segment, in a list, and what is read from them.
 use Rattle.std.specs.Prelude.{◌≡◌, ℕ, ◌+◌, ◌*◌, ◌/◌, ◌<◌, ◌≤◌, List, length, slice_index, Option, Some, None}
 use Rattle.scale_base.specs.declared.ranges.Keyed.{Keyed}
 use Rattle.scale_base.specs.Image.{Image, loaded_byte}

@@ -1,4 +1,4 @@
--- The least address of a kind, and the tests of single addresses.
+-- Scaffold: the least address of a kind, and the tests of single addresses.
 use Rattle.std.specs.Prelude.{◌≡◌, ℕ, ◌+◌, ◌%◌, ◌<◌, ◌≤◌, ◌==◌, ◌&&◌, not, nat_le, if◌then◌else◌, Bool, true, false, List, length, slice_get, Option, Some, None, option_map}
 use Rattle.cost_theory.specs.Lists.{is_among}
 use Rattle.scale_base.specs.declared.instruction.Instr.{Instr}
@@ -39,7 +39,8 @@ IsInRanges ranges n a = (k : ℕ) × (r : Range) × (k < n) × (slice_get ranges
 
 -- whether the byte at an address outside the text and the keyed segment isn't the original's
 abbrev pub is_odd_byte : (original foreign : Image) → ℕ → Bool
-is_odd_byte original foreign a = not (loaded_byte foreign a == loaded_byte original a) && (not (is_keyed (layout_of foreign) a) && not (in_text (layout_of original) a))
+is_odd_byte original foreign a = not (loaded_byte foreign a == loaded_byte original a) &&
+    (not (is_keyed (layout_of foreign) a) && not (in_text (layout_of original) a))
 
 -- ---- words
 
@@ -63,8 +64,10 @@ leads_to_key image at = is_key_place image (goto_target (instr_of (word_at (load
 
 -- whether the word at an address may take the place of the original's
 abbrev pub is_patch_at : (original foreign : Image) → List ℕ → ℕ → Bool
-is_patch_at original foreign nodes at = is_among at nodes && (is_patchable (instr_of (word_at (loaded_byte original) at)) && leads_to_key foreign at)
+is_patch_at original foreign nodes at = is_among at nodes && (is_patchable (instr_of (word_at (loaded_byte original) at)) && leads_to_key
+    foreign at)
 
 -- whether it is a word of the text that isn't the original's and may not take its place
 abbrev pub is_bad_word : (original foreign : Image) → List ℕ → ℕ → Bool
-is_bad_word original foreign nodes at = is_word_address original at && (is_changed original foreign at && not (is_patch_at original foreign nodes at))
+is_bad_word original foreign nodes at = is_word_address original at && (is_changed original foreign at && not
+    (is_patch_at original foreign nodes at))

@@ -1,4 +1,4 @@
--- Parts of an instruction that may be one of a kind.
+-- Scaffold: parts of an instruction that may be one of a kind.
 use Rattle.std.specs.Prelude.{ℕ, ℤ, negsuc, Bool, true, false, ◌==◌, if◌then◌else◌, Option, Some, None}
 use Rattle.std.specs.Ordering.{int_eq}
 use Rattle.scale_base.specs.declared.instruction.Instr.{Instr}

@@ -1,4 +1,4 @@
--- The rows of the tables of exits, by tests.
+-- Scaffold: the rows of the tables of exits, by tests.
 use Rattle.std.specs.Prelude.{◌≡◌, ℕ, ◌+◌, ◌*◌, ◌/◌, ◌%◌, ◌^◌, ◌<◌, ◌==◌, ◌&&◌, nat_le, nat_lt, Bool, true, false, List, All, slice_get, slice_index, Option, Some, None}
 use Rattle.std.specs.List.{list_all}
 use Rattle.scale_base.specs.declared.ranges.Keyed.{Keyed}
@@ -40,7 +40,8 @@ is_sound image limits (Kept s) = stub_has_rows image limits s
 abbrev pub IsFirstUnsound : Image → List ℕ → List Site → Option ℕ → Type 0
 IsFirstUnsound image limits sites None = (k : ℕ) (site : Site) → slice_get sites k ≡ Some site → is_sound image limits site ≡ true
 IsFirstUnsound image limits sites (Some b) =
-    ((site : Site) × (slice_get sites b ≡ Some site) × (is_sound image limits site ≡ false)) × ((k : ℕ) (site : Site) → k < b → slice_get sites k ≡ Some site → is_sound image limits site ≡ true)
+    ((site : Site) × (slice_get sites b ≡ Some site) × (is_sound image limits site ≡ false)) ×
+    ((k : ℕ) (site : Site) → k < b → slice_get sites k ≡ Some site → is_sound image limits site ≡ true)
 
 -- ---- the numbers of fragments fit
 

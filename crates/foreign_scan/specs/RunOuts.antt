@@ -1,4 +1,4 @@
--- Fragments one after another.
+-- Scaffold: fragments one after another.
 use Rattle.std.specs.Prelude.{◌⊎◌, ℕ, ◌≤◌, List, length, All}
 use Rattle.std.specs.List.{flat_map}
 use Rattle.scale_base.specs.Image.{Image}

@@ -77,7 +77,8 @@ Found = ℕ → EdgeKind → List ForeignFragment
 
 -- the stub of a patched instruction keeps all rules but the one on rows
 abbrev pub KeepsForm : (original foreign : Image) (code : Code) → Found → ℕ → Type 0
-KeepsForm original foreign code found at = (p : IsPatch original foreign code at) → IsStub foreign at (moved_by at p.offset) p.old_instr (found at)
+KeepsForm original foreign code found at = (p : IsPatch original foreign code at) →
+    IsStub foreign at (moved_by at p.offset) p.old_instr (found at)
 
 -- a fragment stands on an edge
 abbrev pub IsOn : ForeignFragment → List ForeignFragment → Type 0
@@ -119,17 +120,22 @@ IsLastRow original foreign code l found counter shift last =
 
 -- the rows of each table of the edges at an address lie in the keyed segment
 abbrev pub HasRows : (original foreign : Image) (code : Code) (l : Loops) → Found → ℕ → Type 0
-HasRows original foreign code l found at = (kind : EdgeKind) (counter shift table last : ℕ) → IsOn (Exit counter shift table) (found at kind) → IsLastRow original foreign code l found counter shift last → AreRowsIn foreign table (last + 1)
+HasRows original foreign code l found at = (kind : EdgeKind) (counter shift table last : ℕ) →
+    IsOn (Exit counter shift table) (found at kind) → IsLastRow original foreign code l found counter shift last →
+    AreRowsIn foreign table (last + 1)
 
 -- ---- none of the causes, and the first of them
 
 -- What is found stands on edges of changed words alone; where the stub there keeps its form but for rows, it is what stands there, and otherwise nothing.
 pub record AreFound (original foreign : Image) (code : Code) (found : Found) : Type 0 where
-  pub edges : (at : ℕ) (kind : EdgeKind) → ((e : ℕ) (edge : Edge) → slice_get code.edges e ≡ Some edge → edge.at ≡ at → edge.kind ≡ kind → ⊥) → found at kind ≡ []
+  pub edges : (at : ℕ) (kind : EdgeKind) → ((e : ℕ) (edge : Edge) → slice_get code.edges e ≡ Some edge → edge.at ≡ at → edge.kind ≡ kind →
+      ⊥) → found at kind ≡ []
   pub plain : (at : ℕ) (kind : EdgeKind) → (IsChanged original foreign at → ⊥) → found at kind ≡ []
-  pub none : (at : ℕ) (kind : EdgeKind) → IsChanged original foreign at → (KeepsForm original foreign code found at → ⊥) → found at kind ≡ []
+  pub none : (at : ℕ) (kind : EdgeKind) → IsChanged original foreign at → (KeepsForm original foreign code found at → ⊥) →
+      found at kind ≡ []
   -- a stub that keeps its form with any fragments keeps it with these
-  pub some : (at : ℕ) (others : Found) → IsChanged original foreign at → KeepsForm original foreign code others at → KeepsForm original foreign code found at
+  pub some : (at : ℕ) (others : Found) → IsChanged original foreign at → KeepsForm original foreign code others at →
+      KeepsForm original foreign code found at
 
 abbrev pub IsBadPatch : (original foreign : Image) → Code → ℕ → Type 0
 IsBadPatch original foreign code at = IsChanged original foreign at × (IsPatch original foreign code at → ⊥)
@@ -155,10 +161,13 @@ IsLeastAddress P at = P at × ((lower : ℕ) → lower < at → P lower → ⊥)
 abbrev pub IsFirstWhy : (original foreign : Image) (code : Code) (l : Loops) → Why → Type 0
 IsFirstWhy original foreign code l why.NoKey = foreign.keyed_segment ≡ None
 IsFirstWhy original foreign code l why.Layout = (foreign.keyed_segment ≢ None) × (IsLaidAlike original foreign → ⊥)
-IsFirstWhy original foreign code l (why.Byte at) = (foreign.keyed_segment ≢ None) × IsLaidAlike original foreign × IsLeastAddress (IsOddByte original foreign) at
+IsFirstWhy original foreign code l (why.Byte at) = (foreign.keyed_segment ≢ None) × IsLaidAlike original foreign ×
+    IsLeastAddress (IsOddByte original foreign) at
 IsFirstWhy original foreign code l (why.Patch at) =
-    (foreign.keyed_segment ≢ None) × IsLaidAlike original foreign × ((a : ℕ) → IsOddByte original foreign a → ⊥) × IsLeastAddress (IsBadPatch original foreign code) at
+    (foreign.keyed_segment ≢ None) × IsLaidAlike original foreign × ((a : ℕ) → IsOddByte original foreign a → ⊥) ×
+    IsLeastAddress (IsBadPatch original foreign code) at
 IsFirstWhy original foreign code l (why.Stub at) =
-    (foreign.keyed_segment ≢ None) × IsLaidAlike original foreign × ((a : ℕ) → IsOddByte original foreign a → ⊥) × ((a : ℕ) → IsBadPatch original foreign code a → ⊥)
+    (foreign.keyed_segment ≢ None) × IsLaidAlike original foreign × ((a : ℕ) → IsOddByte original foreign a → ⊥) ×
+    ((a : ℕ) → IsBadPatch original foreign code a → ⊥)
     × ((found : Found) × AreFound original foreign code found × IsLeastAddress (IsBadStub original foreign code l found) at)
 IsFirstWhy original foreign code l other = ⊥

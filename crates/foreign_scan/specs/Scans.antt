@@ -1,4 +1,4 @@
--- What a scan answers.
+-- Scaffold: what a scan answers.
 use Rattle.std.specs.Prelude.{◌≡◌, ℕ, length, slice_get, Some, None}
 use Rattle.scale_base.specs.declared.edges.Edge.{Edge}
 use Rattle.cost_theory.specs.Graph.{Loops}
@@ -18,7 +18,8 @@ pub record IsShownBy (original foreign : Image) (code : Code) (found : Found) (s
 
 -- What is found, where none of the causes holds; or the first of them that holds.
 abbrev pub IsScanOf : (original foreign : Image) → Code → Loops → Scanned → Type 0
-IsScanOf original foreign code l (IsFound s) = (found : Found) × IsScanned original foreign code l found × IsShownBy original foreign code found s
+IsScanOf original foreign code l (IsFound s) = (found : Found) × IsScanned original foreign code l found ×
+    IsShownBy original foreign code found s
 IsScanOf original foreign code l (Fails why) = IsFirstWhy original foreign code l why
 
 -- none of the causes that come before those of stubs

@@ -1,4 +1,4 @@
--- What is found in an image, by the numbers of nodes and edges.
+-- Scaffold: what is found in an image, by the numbers of nodes and edges.
 use Rattle.std.specs.Prelude.{◌≡◌, ◌<◌, ℕ, Bool, List, All, length, map, slice_get, Some}
 use Rattle.scale_base.specs.declared.edges.Edge.{Edge}
 use Rattle.foreign_scan.specs.declared.fragment.ForeignFragment.{ForeignFragment}
@@ -25,7 +25,8 @@ ArePlacesWithin sites places = All (λ place. place.node < length sites) places
 -- by edge, the node at which it starts, and its kind
 pub record ArePlacesOf (sources : List ℕ) (edges : List Edge) (places : List EdgePlace) : Type 0 where
   pub size : length places ≡ length edges
-  pub each : (e : ℕ) (place : EdgePlace) (edge : Edge) → slice_get places e ≡ Some place → slice_get edges e ≡ Some edge → (slice_get sources e ≡ Some place.node) × (place.kind ≡ edge.kind)
+  pub each : (e : ℕ) (place : EdgePlace) (edge : Edge) → slice_get places e ≡ Some place → slice_get edges e ≡ Some edge →
+      (slice_get sources e ≡ Some place.node) × (place.kind ≡ edge.kind)
 
 -- the sites of nodes are shown
 abbrev pub ShowsSites : List ℕ → List Edge → List Site → ScannedSites → Type 0

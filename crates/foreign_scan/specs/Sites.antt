@@ -1,4 +1,4 @@
--- What is known of the words of nodes, and what a scan gives.
+-- Scaffold: what is known of the words of nodes, and what a scan gives.
 use Rattle.std.specs.Prelude.{◌≡◌, ℕ, ℤ, nat_eq, Bool, true, false, if◌then◌else◌, List, [], ◌∷◌, length, slice_get, Option, Some, None}
 use Rattle.scale_base.specs.declared.instruction.Instr.{Instr}
 use Rattle.scale_base.specs.declared.instruction.Instr.TheVariants as instr
@@ -29,7 +29,8 @@ pub record IsKeptAt (original foreign : Image) (at : ℕ) (s : StubFragments) : 
 -- it leads to no stub
 pub record IsBrokenAt (original foreign : Image) (at : ℕ) : Type 0 where
   pub changed : is_changed original foreign at ≡ true
-  pub none : (old : Instr) (offset : ℤ) (others : EdgeKind → List ForeignFragment) → instr_at (text_of original) at ≡ Some old → instr_of (word_at (loaded_byte foreign) at) ≡ Some (instr.Jal 0 offset)
+  pub none : (old : Instr) (offset : ℤ) (others : EdgeKind → List ForeignFragment) → instr_at (text_of original) at ≡ Some old →
+      instr_of (word_at (loaded_byte foreign) at) ≡ Some (instr.Jal 0 offset)
       → IsStub foreign at (moved_by at offset) old others → ⊥
 
 abbrev pub IsSiteAt : (original foreign : Image) → ℕ → Site → Type 0

@@ -1,4 +1,4 @@
--- The fragments of a stub, by the edges of its instruction.
+-- Scaffold: the fragments of a stub, by the edges of its instruction.
 use Rattle.std.specs.Prelude.{◌≡◌, List, []}
 use Rattle.scale_base.specs.declared.instruction.Instr.{Instr}
 use Rattle.scale_base.specs.declared.instruction.Instr.TheVariants as instr

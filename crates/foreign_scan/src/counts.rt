@@ -123,9 +123,11 @@ fn take_edge(lists: &GraphLists<'_>, firsts: &mut [Option<usize>], sites: &[Site
     requires foreign { All SiteIsForeign sites.now }
     requires size { length firsts.old ≡ 512 }
     requires within { AreEdgesWithin (length lists.now.edges.now) firsts.old }
-    requires firsts { AreFirstsBelow lists.now.edges.now lists.now.backs.now (numbered_fragments lists.now.sources.now lists.now.edges.now sites.now) e firsts.old }
+    requires firsts { AreFirstsBelow lists.now.edges.now lists.now.backs.now (numbered_fragments lists.now.sources.now lists.now.edges.now
+        sites.now) e firsts.old }
     ensures within { AreEdgesWithin (length lists.now.edges.now) firsts.new }
-    ensures firsts { AreFirstsBelow lists.now.edges.now lists.now.backs.now (numbered_fragments lists.now.sources.now lists.now.edges.now sites.now) (e + 1) firsts.new }
+    ensures firsts { AreFirstsBelow lists.now.edges.now lists.now.backs.now (numbered_fragments lists.now.sources.now lists.now.edges.now
+        sites.now) (e + 1) firsts.new }
 {
     match lists.backs[e] {
         Some(_) => {
@@ -146,7 +148,8 @@ fn first_counts(
     requires foreign { All SiteIsForeign sites.now }
     ensures size { IfOk result (λ firsts. length firsts.items ≡ 512) }
     ensures within { IfOk result (λ firsts. AreEdgesWithin (length lists.now.edges.now) firsts.items) }
-    ensures firsts { IfOk result (λ firsts. AreFirstsBelow lists.now.edges.now lists.now.backs.now (numbered_fragments lists.now.sources.now lists.now.edges.now sites.now) (length lists.now.edges.now) firsts.items) }
+    ensures firsts { IfOk result (λ firsts. AreFirstsBelow lists.now.edges.now lists.now.backs.now
+        (numbered_fragments lists.now.sources.now lists.now.edges.now sites.now) (length lists.now.edges.now) firsts.items) }
 {
     let mut firsts = no_edges(alloc)?;
     for e in 0..lists.edges.len() {
@@ -187,7 +190,8 @@ pub fn counter_limits(
     requires sizes { AreSized lists.now (length sites.now) }
     requires foreign { All SiteIsForeign sites.now }
     ensures size { IfOk result (λ limits. length limits.items ≡ 512) }
-    ensures limits { IfOk result (λ limits. AreCountLimits lists.now.edges.now lists.now.backs.now lists.now.bounds.now (numbered_fragments lists.now.sources.now lists.now.edges.now sites.now) limits.items) }
+    ensures limits { IfOk result (λ limits. AreCountLimits lists.now.edges.now lists.now.backs.now lists.now.bounds.now
+        (numbered_fragments lists.now.sources.now lists.now.edges.now sites.now) limits.items) }
 {
     let firsts = first_counts(alloc, lists, sites)?;
     let mut limits = Vec::new(alloc);

@@ -53,7 +53,8 @@ fn words_between(
     end: u32,
 ) -> Result<Vec<u32>, NoMemory>
     requires { 4 * end ≤ 0xFFFF_FFFF }
-    ensures { IfOk result (λ words. words.items ≡ map (λ k. word_at (list_bytes memory.now) (4 * (first + k))) (range_with_len 0 (end - first))) }
+    ensures { IfOk result (λ words. words.items ≡ map (λ k. word_at (list_bytes memory.now) (4 * (first + k)))
+        (range_with_len 0 (end - first))) }
 {
     let mut words = Vec::new(alloc);
     for k in 0..end.saturating_sub(first) {

@@ -35,7 +35,8 @@ fn place_of(segment: &Segment<'_>) -> SegmentPlace
 
 /// Adds the place of a segment without the key at the end.
 fn add_if_plain(places: &mut Vec<SegmentPlace>, segment: &Segment<'_>) -> Result<(), NoMemory>
-    ensures { OnOk result (places.new.items ≡ places.old.items ++ map segment_place (filter rules.is_plain_segment (segment_value segment.now ∷ []))) }
+    ensures { OnOk result (places.new.items ≡ places.old.items ++ map segment_place
+        (filter rules.is_plain_segment (segment_value segment.now ∷ []))) }
 {
     if is_plain(segment) {
         places.push(place_of(segment))?;

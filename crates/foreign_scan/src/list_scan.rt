@@ -36,7 +36,8 @@ fn why_by_words(
     nodes: &[u32],
 ) -> Result<Option<Why>, NoMemory>
     requires { RiseStrictly nodes.now }
-    ensures why { IfOk result (λ o. IfSome o (λ why. (code : Code) (l : Loops) → code.nodes ≡ nodes.now → IsFirstWhy original.now foreign.now code l why)) }
+    ensures why { IfOk result (λ o. IfSome o (λ why. (code : Code) (l : Loops) → code.nodes ≡ nodes.now →
+        IsFirstWhy original.now foreign.now code l why)) }
     ensures none { IfOk result (λ o. IfNone o ((code : Code) → code.nodes ≡ nodes.now → IsPatchedWell original.now foreign.now code)) }
 {
     let Some(_key) = foreign.keyed() else {
@@ -63,7 +64,8 @@ fn scan_stubs(
     lists: &GraphLists<'_>,
 ) -> Result<Scanned, NoMemory>
     requires { (code : Code) × (l : Loops) × AreListsOf original.now code l lists.now }
-    ensures { IfOk result (λ scanned. (code : Code) (l : Loops) → AreListsOf original.now code l lists.now → IsPatchedWell original.now foreign.now code → IsScanOf original.now foreign.now code l scanned) }
+    ensures { IfOk result (λ scanned. (code : Code) (l : Loops) → AreListsOf original.now code l lists.now →
+        IsPatchedWell original.now foreign.now code → IsScanOf original.now foreign.now code l scanned) }
 {
     let key = read_key(alloc, foreign)?;
     let sites = read_sites(alloc, original, foreign, lists.nodes, &key)?;
@@ -83,7 +85,8 @@ pub fn scan_lists(
 ) -> Result<Scanned, NoMemory>
     requires key { original.now.keyed_segment ≡ None }
     requires lists { (code : Code) × (l : Loops) × AreListsOf original.now code l lists.now }
-    ensures { IfOk result (λ scanned. (code : Code) (l : Loops) → AreListsOf original.now code l lists.now → IsScanOf original.now foreign.now code l scanned) }
+    ensures { IfOk result (λ scanned. (code : Code) (l : Loops) → AreListsOf original.now code l lists.now →
+        IsScanOf original.now foreign.now code l scanned) }
 {
     match why_by_words(alloc, original, foreign, lists.nodes)? {
         Some(why) => Ok(Scanned::Fails(why)),

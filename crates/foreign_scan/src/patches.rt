@@ -141,7 +141,8 @@ fn bad_patch_among(
 /// The least address of such a word in the text.
 pub fn bad_patch(original: &ImageView<'_>, foreign: &ImageView<'_>, nodes: &[u32]) -> Option<u32>
     requires { RiseStrictly nodes.now }
-    ensures { IsLeastBadOf (is_bad_word original.now foreign.now nodes.now) (IsInRanges original.now.text (length original.now.text)) result }
+    ensures { IsLeastBadOf (is_bad_word original.now foreign.now nodes.now) (IsInRanges original.now.text (length original.now.text))
+        result }
 {
     bad_patch_among(original, foreign, nodes, original.text())
 }

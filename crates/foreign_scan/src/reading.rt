@@ -105,7 +105,8 @@ fn exit_shift(key: &KeyCode<'_>, at: u64) -> Option<u8>
 /// The counter of an Exit, if one stands at the address.
 fn exit_counter(key: &KeyCode<'_>, at: u64) -> Option<u16>
     requires { at < 2 ^ 33 }
-    ensures { (counter shift table : ℕ) → counter < 512 → Hold key.now at (fragments.exit_code counter shift table) → result ≡ Some counter }
+    ensures { (counter shift table : ℕ) → counter < 512 → Hold key.now at (fragments.exit_code counter shift table) →
+        result ≡ Some counter }
 {
     window_word(loaded_offset(key, at + 8)?)
 }
@@ -113,7 +114,8 @@ fn exit_counter(key: &KeyCode<'_>, at: u64) -> Option<u16>
 /// The Exit that stands at the address, if one does.
 fn exit_at(key: &KeyCode<'_>, at: u64) -> Option<ForeignFragment>
     requires { at < 2 ^ 33 }
-    ensures { (counter shift table : ℕ) → FragmentStandsAt key.now at (ForeignFragment.Exit counter shift table) → result ≡ Some (ForeignFragment.Exit counter shift table) }
+    ensures { (counter shift table : ℕ) → FragmentStandsAt key.now at (ForeignFragment.Exit counter shift table) →
+        result ≡ Some (ForeignFragment.Exit counter shift table) }
 {
     let counter = exit_counter(key, at)?;
     let shift = exit_shift(key, at)?;

@@ -84,7 +84,8 @@ pub fn read_run_out(
 ) -> Result<Option<Vec<ForeignFragment>>, NoMemory>
     requires { at ≤ 2 ^ 32 + 4 }
     ensures found { IfOk result (λ found. IfSome found (λ fs. IsRunOut key.now at to fs.items)) }
-    ensures only { IfOk result (λ found. IfSome found (λ fs. (others : List ForeignFragment) → IsRunOut key.now at to others → others ≡ fs.items)) }
+    ensures only { IfOk result (λ found. IfSome found (λ fs. (others : List ForeignFragment) → IsRunOut key.now at to others →
+        others ≡ fs.items)) }
     ensures none { IfOk result (λ found. IfNone found ((fs : List ForeignFragment) → IsRunOut key.now at to fs → ⊥)) }
 {
     let (fragments, end) = read_fragments(alloc, key, at)?;

@@ -87,8 +87,11 @@ fn read_fork(
     offset: i32,
 ) -> Result<Option<StubFragments>, NoMemory>
     ensures found { IfOk result (λ found. IfSome found (λ s. IsStub key.now at stub (Instr.Branch op rs1 rs2 offset) (fragments_of s))) }
-    ensures only { IfOk result (λ found. IfSome found (λ s. (others : EdgeKind → List ForeignFragment) → IsStub key.now at stub (Instr.Branch op rs1 rs2 offset) others → AreSameOn (Instr.Branch op rs1 rs2 offset) others (fragments_of s))) }
-    ensures none { IfOk result (λ found. IfNone found ((others : EdgeKind → List ForeignFragment) → IsStub key.now at stub (Instr.Branch op rs1 rs2 offset) others → ⊥)) }
+    ensures only { IfOk result (λ found. IfSome found (λ s. (others : EdgeKind → List ForeignFragment) →
+        IsStub key.now at stub (Instr.Branch op rs1 rs2 offset) others → AreSameOn (Instr.Branch op rs1 rs2 offset) others
+        (fragments_of s))) }
+    ensures none { IfOk result (λ found. IfNone found ((others : EdgeKind → List ForeignFragment) →
+        IsStub key.now at stub (Instr.Branch op rs1 rs2 offset) others → ⊥)) }
     ensures shape { IfOk result (λ found. IfSome found (λ s. IsOfInstr (Instr.Branch op rs1 rs2 offset) s)) }
 {
     let again = match branch_again(key, u64::from(stub), op, rs1, rs2) {
@@ -115,8 +118,10 @@ fn read_jump(
     offset: i32,
 ) -> Result<Option<StubFragments>, NoMemory>
     ensures found { IfOk result (λ found. IfSome found (λ s. IsStub key.now at stub (Instr.Jal rd offset) (fragments_of s))) }
-    ensures only { IfOk result (λ found. IfSome found (λ s. (others : EdgeKind → List ForeignFragment) → IsStub key.now at stub (Instr.Jal rd offset) others → AreSameOn (Instr.Jal rd offset) others (fragments_of s))) }
-    ensures none { IfOk result (λ found. IfNone found ((others : EdgeKind → List ForeignFragment) → IsStub key.now at stub (Instr.Jal rd offset) others → ⊥)) }
+    ensures only { IfOk result (λ found. IfSome found (λ s. (others : EdgeKind → List ForeignFragment) →
+        IsStub key.now at stub (Instr.Jal rd offset) others → AreSameOn (Instr.Jal rd offset) others (fragments_of s))) }
+    ensures none { IfOk result (λ found. IfNone found ((others : EdgeKind → List ForeignFragment) →
+        IsStub key.now at stub (Instr.Jal rd offset) others → ⊥)) }
     ensures shape { IfOk result (λ found. IfSome found (λ s. IsOfInstr (Instr.Jal rd offset) s)) }
 {
     match read_run_out(alloc, key, u64::from(stub), moved(at, offset))? {
@@ -136,8 +141,10 @@ pub fn read_stub(
     instr: &Instr,
 ) -> Result<Option<StubFragments>, NoMemory>
     ensures found { IfOk result (λ found. IfSome found (λ s. IsStub key.now at stub instr.now (fragments_of s))) }
-    ensures only { IfOk result (λ found. IfSome found (λ s. (others : EdgeKind → List ForeignFragment) → IsStub key.now at stub instr.now others → AreSameOn instr.now others (fragments_of s))) }
-    ensures none { IfOk result (λ found. IfNone found ((others : EdgeKind → List ForeignFragment) → IsStub key.now at stub instr.now others → ⊥)) }
+    ensures only { IfOk result (λ found. IfSome found (λ s. (others : EdgeKind → List ForeignFragment) →
+        IsStub key.now at stub instr.now others → AreSameOn instr.now others (fragments_of s))) }
+    ensures none { IfOk result (λ found. IfNone found ((others : EdgeKind → List ForeignFragment) →
+        IsStub key.now at stub instr.now others → ⊥)) }
     ensures shape { IfOk result (λ found. IfSome found (λ s. IsOfInstr instr.now s)) }
 {
     match *instr {

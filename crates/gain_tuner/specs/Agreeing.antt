@@ -1,4 +1,4 @@
--- Two tunings that may be given for the same files are the same, but for the cycle that a refusal names.
+-- Scaffold: two tunings that may be given for the same files are the same, but for the cycle that a refusal names.
 use Rattle.std.specs.Prelude.{◌≡◌, ℕ, List, Result, Ok, Err}
 use Rattle.scale_base.specs.declared.refusal.Refusal.{Refusal}
 use Rattle.scale_base.specs.declared.summary.Tuned.{Tuned}

@@ -16,4 +16,5 @@ pub record IsGained (image machine loop_file : List ℕ) (first : ℕ) (counters
 -- 2 + 2 k the same where no loop is counted.
 abbrev pub IsCandidate : (image machine loop_file : List ℕ) → ℕ → Result (List ℕ × Summary) Refusal → Type 0
 IsCandidate image machine loop_file c answer =
-    ((c ≡ 0) × IsHeld image machine loop_file answer) ⊎ (IsGained image machine loop_file 1 true c answer ⊎ IsGained image machine loop_file 2 false c answer)
+    ((c ≡ 0) × IsHeld image machine loop_file answer) ⊎ (IsGained image machine loop_file 1 true c answer ⊎
+    IsGained image machine loop_file 2 false c answer)

@@ -24,7 +24,8 @@ abbrev pub IsTrial : (image machine loop_file : List ℕ) → List (List ℕ) �
 IsTrial image machine loop_file given = IsTrialOf (IsCandidate image machine loop_file) machine (counting image machine loop_file given)
 
 abbrev pub IsCheapest : (image machine loop_file : List ℕ) → List (List ℕ) → ℕ → ℕ → List ℕ → Summary → ℕ → Type 0
-IsCheapest image machine loop_file given = IsCheapestOf (IsCandidate image machine loop_file) machine (counting image machine loop_file given)
+IsCheapest image machine loop_file given = IsCheapestOf (IsCandidate image machine loop_file) machine
+    (counting image machine loop_file given)
 
 -- the stored image and the numbers of the choice among 33 candidates
 pub record IsChoice (image machine loop_file : List ℕ) (given : List (List ℕ)) (stored : List ℕ) (tuned : Tuned) : Type 0 where

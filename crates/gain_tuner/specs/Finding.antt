@@ -1,4 +1,4 @@
--- What the parts of a tuning find, on the way to what it gives.
+-- Scaffold: what the parts of a tuning find, on the way to what it gives.
 use Rattle.std.specs.Prelude.{◌≡◌, ℕ, nat_lt, if◌then◌else◌, List, Option, Some, None, IsSome, Result, Ok, Err, Vec}
 use Rattle.std.specs.declared.alloc.Global.{Global}
 use Rattle.std.specs.List.{All}
@@ -30,9 +30,11 @@ pub record IsSafeTrialOf (Candidate : ℕ → Result (List ℕ × Summary) Refus
   pub safe : IsStoredSafely image machine loop_file t.stored.items t.summary
 
 -- that, or none where the candidate is out
-abbrev pub IsTrialOrOf : (ℕ → Result (List ℕ × Summary) Refusal → Type 0) → (image machine loop_file : List ℕ) → List (List ℕ) → ℕ → Option Trial → Type 0
+abbrev pub IsTrialOrOf : (ℕ → Result (List ℕ × Summary) Refusal → Type 0) → (image machine loop_file : List ℕ) → List (List ℕ) → ℕ →
+    Option Trial → Type 0
 IsTrialOrOf Candidate image machine loop_file given c (Some t) = IsSafeTrialOf Candidate image machine loop_file given c t
-IsTrialOrOf Candidate image machine loop_file given c None = (stored : List ℕ) (summary : Summary) (energy : ℕ) → IsTrialOf Candidate machine (counting image machine loop_file given) c stored summary energy → ⊥
+IsTrialOrOf Candidate image machine loop_file given c None = (stored : List ℕ) (summary : Summary) (energy : ℕ) →
+    IsTrialOf Candidate machine (counting image machine loop_file given) c stored summary energy → ⊥
 
 -- the cheapest of the candidates of a family below n, which is safe
 pub record IsSafeChoiceOf (Candidate : ℕ → Result (List ℕ × Summary) Refusal → Type 0) (image machine loop_file : List ℕ) (given : List (List ℕ)) (n : ℕ) (t : Trial) : Type 0 where
@@ -55,8 +57,10 @@ Made made c answer = answer ≡ made
 
 -- What was found of what a call made of a candidate: a trial of it, which is safe, or none where it is out.
 abbrev pub IsTried : (image machine loop_file : List ℕ) → List (List ℕ) → ℕ → Result (Vec ℕ Global × Summary) Stop → Option Trial → Type 0
-IsTried image machine loop_file given c (Ok made) tried = IsTrialOrOf (Made (Ok ((made.0.items, made.1)))) image machine loop_file given c tried
-IsTried image machine loop_file given c (Err (Refused refusal)) tried = IsTrialOrOf (Made (Err refusal)) image machine loop_file given c tried
+IsTried image machine loop_file given c (Ok made) tried = IsTrialOrOf (Made (Ok ((made.0.items, made.1)))) image machine loop_file given c
+    tried
+IsTried image machine loop_file given c (Err (Refused refusal)) tried = IsTrialOrOf (Made (Err refusal)) image machine loop_file given c
+    tried
 IsTried image machine loop_file given c (Err Memory) tried = ⊥
 
 -- of two trials the one of less energy, and the first where they take the same

@@ -54,9 +54,11 @@ pub fn held_trial<P: Progress>(
     requires machine { length files.now.machine.now ≤ 1048576 }
     requires loops { length files.now.loops.now ≤ 1048576 }
     requires few { length files.now.inputs.now ≤ 64 }
-    requires flags { files.now.flags.now ≡ map (λ input. counts files.now.image.now files.now.machine.now files.now.loops.now input.items) files.now.inputs.now }
+    requires flags { files.now.flags.now ≡ map (λ input. counts files.now.image.now files.now.machine.now files.now.loops.now input.items)
+        files.now.inputs.now }
     requires held { IsHeld files.now.image.now files.now.machine.now files.now.loops.now (Ok ((held.0.items, held.1))) }
-    ensures { IfOk result (IsSafeTrialOf (Made (Ok ((held.0.items, held.1)))) files.now.image.now files.now.machine.now files.now.loops.now (map (λ input. input.items) files.now.inputs.now) 0) }
+    ensures { IfOk result (IsSafeTrialOf (Made (Ok ((held.0.items, held.1)))) files.now.image.now files.now.machine.now files.now.loops.now
+        (map (λ input. input.items) files.now.inputs.now) 0) }
 {
     let (stored, summary) = held;
     progress.next(Part::Candidate);
@@ -78,9 +80,12 @@ pub fn trial_from<P: Progress>(
     progress: &mut P,
 ) -> Result<Option<Trial>, NoMemory>
     requires few { length files.now.inputs.now ≤ 64 }
-    requires flags { files.now.flags.now ≡ map (λ input. counts files.now.image.now files.now.machine.now files.now.loops.now input.items) files.now.inputs.now }
-    requires safe { IfOk made (λ given. IsStoredSafely files.now.image.now files.now.machine.now files.now.loops.now given.0.items given.1) }
-    ensures { IfOk result (IsTried files.now.image.now files.now.machine.now files.now.loops.now (map (λ input. input.items) files.now.inputs.now) candidate made) }
+    requires flags { files.now.flags.now ≡ map (λ input. counts files.now.image.now files.now.machine.now files.now.loops.now input.items)
+        files.now.inputs.now }
+    requires safe { IfOk made (λ given. IsStoredSafely files.now.image.now files.now.machine.now files.now.loops.now given.0.items
+        given.1) }
+    ensures { IfOk result (IsTried files.now.image.now files.now.machine.now files.now.loops.now
+        (map (λ input. input.items) files.now.inputs.now) candidate made) }
 {
     match made {
         Ok((stored, summary)) => match spent_over(alloc, files, &stored, progress)? {
@@ -108,10 +113,12 @@ fn trial_of<P: Progress>(
     requires machine { length files.now.machine.now ≤ 1048576 }
     requires loops { length files.now.loops.now ≤ 1048576 }
     requires few { length files.now.inputs.now ≤ 64 }
-    requires flags { files.now.flags.now ≡ map (λ input. counts files.now.image.now files.now.machine.now files.now.loops.now input.items) files.now.inputs.now }
+    requires flags { files.now.flags.now ≡ map (λ input. counts files.now.image.now files.now.machine.now files.now.loops.now input.items)
+        files.now.inputs.now }
     requires from { 1 ≤ candidate }
     requires to { candidate < 33 }
-    ensures { IfOk result (IsTrialOr files.now.image.now files.now.machine.now files.now.loops.now (map (λ input. input.items) files.now.inputs.now) candidate) }
+    ensures { IfOk result (IsTrialOr files.now.image.now files.now.machine.now files.now.loops.now
+        (map (λ input. input.items) files.now.inputs.now) candidate) }
 {
     progress.next(Part::Candidate);
     let made = candidate_of(alloc, files.image, files.machine, files.loops, candidate);
@@ -145,9 +152,12 @@ pub fn cheapest<P: Progress>(
     requires machine { length files.now.machine.now ≤ 1048576 }
     requires loops { length files.now.loops.now ≤ 1048576 }
     requires few { length files.now.inputs.now ≤ 64 }
-    requires flags { files.now.flags.now ≡ map (λ input. counts files.now.image.now files.now.machine.now files.now.loops.now input.items) files.now.inputs.now }
-    requires held { IsSafeTrial files.now.image.now files.now.machine.now files.now.loops.now (map (λ input. input.items) files.now.inputs.now) 0 held }
-    ensures { IfOk result (IsSafeChoice files.now.image.now files.now.machine.now files.now.loops.now (map (λ input. input.items) files.now.inputs.now) 33) }
+    requires flags { files.now.flags.now ≡ map (λ input. counts files.now.image.now files.now.machine.now files.now.loops.now input.items)
+        files.now.inputs.now }
+    requires held { IsSafeTrial files.now.image.now files.now.machine.now files.now.loops.now
+        (map (λ input. input.items) files.now.inputs.now) 0 held }
+    ensures { IfOk result (IsSafeChoice files.now.image.now files.now.machine.now files.now.loops.now
+        (map (λ input. input.items) files.now.inputs.now) 33) }
 {
     let mut best = held;
     for candidate in 1..CANDIDATES {

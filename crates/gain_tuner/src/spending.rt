@@ -20,7 +20,8 @@ pub fn report_of<P: Progress>(
     progress: &mut P,
 ) -> Result<RunReport, NoMemory>
     requires { IsOk (simulated files.now.image.now files.now.machine.now files.now.input.now (option_map (λ l. l.now) files.now.loops)) }
-    ensures { IfOk result (λ report. simulated files.now.image.now files.now.machine.now files.now.input.now (option_map (λ l. l.now) files.now.loops) ≡ Ok (report_view report)) }
+    ensures { IfOk result (λ report. simulated files.now.image.now files.now.machine.now files.now.input.now
+        (option_map (λ l. l.now) files.now.loops) ≡ Ok (report_view report)) }
 {
     match simulate_with_progress(alloc, files, progress) {
         Ok(report) => Ok(report),
@@ -63,7 +64,8 @@ pub fn counting_of<P: Progress>(
     progress: &mut P,
 ) -> Result<Vec<bool>, NoMemory>
     requires { RunsAlways given.now.image.now given.now.machine.now (Some given.now.loops.now) }
-    ensures { IfOk result (λ flags. flags.items ≡ map (λ input. spending.counts given.now.image.now given.now.machine.now given.now.loops.now input.items) given.now.inputs.now) }
+    ensures { IfOk result (λ flags. flags.items ≡ map (λ input. spending.counts given.now.image.now given.now.machine.now
+        given.now.loops.now input.items) given.now.inputs.now) }
 {
     let mut flags = Vec::new(alloc);
     progress.begin(Part::Input, given.inputs.len());
@@ -119,8 +121,10 @@ pub fn spent_over<P: Progress>(
 ) -> Result<Option<u128>, NoMemory>
     requires runs { RunsAlways stored.now files.now.machine.now None }
     requires few { length files.now.inputs.now ≤ 64 }
-    requires flags { files.now.flags.now ≡ map (λ input. spending.counts files.now.image.now files.now.machine.now files.now.loops.now input.items) files.now.inputs.now }
-    ensures { IfOk result (IsSpentOr stored.now files.now.machine.now (spending.counting files.now.image.now files.now.machine.now files.now.loops.now (map (λ input. input.items) files.now.inputs.now))) }
+    requires flags { files.now.flags.now ≡ map (λ input. spending.counts files.now.image.now files.now.machine.now files.now.loops.now
+        input.items) files.now.inputs.now }
+    ensures { IfOk result (IsSpentOr stored.now files.now.machine.now (spending.counting files.now.image.now files.now.machine.now
+        files.now.loops.now (map (λ input. input.items) files.now.inputs.now))) }
 {
     let mut energy: u128 = 0;
     progress.begin(Part::Input, files.inputs.len());

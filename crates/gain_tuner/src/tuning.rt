@@ -51,8 +51,10 @@ fn tune_held<P: Progress>(
     requires loops { length program.now.loops.now ≤ 1048576 }
     requires few { length program.now.inputs.now ≤ 64 }
     requires held { IsHeld program.now.image.now program.now.machine.now program.now.loops.now (Ok ((held.0.items, held.1))) }
-    ensures choice { IfOk result (λ chosen. IsChoice program.now.image.now program.now.machine.now program.now.loops.now (map (λ input. input.items) program.now.inputs.now) chosen.0.items chosen.1) }
-    ensures safe { IfOk result (λ chosen. IsStoredSafely program.now.image.now program.now.machine.now program.now.loops.now chosen.0.items chosen.1.summary) }
+    ensures choice { IfOk result (λ chosen. IsChoice program.now.image.now program.now.machine.now program.now.loops.now
+        (map (λ input. input.items) program.now.inputs.now) chosen.0.items chosen.1) }
+    ensures safe { IfOk result (λ chosen. IsStoredSafely program.now.image.now program.now.machine.now program.now.loops.now chosen.0.items
+        chosen.1.summary) }
 {
     let flags = counting_of(alloc, program, progress)?;
     let files = Files {
@@ -81,9 +83,11 @@ pub fn tune_with_progress<P: Progress>(
     requires some { 1 ≤ length files.now.inputs.now }
     requires few { length files.now.inputs.now ≤ 64 }
     requires inputs { All (λ input. length input.items ≤ 1048576) files.now.inputs.now }
-    ensures tuned { AnswersBy (λ given. (given.0.items, given.1)) result (IsTuning files.now.image.now files.now.machine.now files.now.loops.now (map (λ input. input.items) files.now.inputs.now)) }
+    ensures tuned { AnswersBy (λ given. (given.0.items, given.1)) result (IsTuning files.now.image.now files.now.machine.now
+        files.now.loops.now (map (λ input. input.items) files.now.inputs.now)) }
     ensures saves { IfOk result (λ given. given.1.energy ≤ given.1.hold_energy) }
-    ensures safe { IfOk result (λ given. IsStoredSafely files.now.image.now files.now.machine.now files.now.loops.now given.0.items given.1.summary) }
+    ensures safe { IfOk result (λ given. IsStoredSafely files.now.image.now files.now.machine.now files.now.loops.now given.0.items
+        given.1.summary) }
 {
     let held = hold(alloc, files.image, files.machine, files.loops)?;
     Ok(tune_held(alloc, files, held, progress)?)
@@ -111,7 +115,8 @@ pub fn tune(
     requires some { 1 ≤ length inputs.now }
     requires few { length inputs.now ≤ 64 }
     requires inputs { All (λ input. length input.items ≤ 1048576) inputs.now }
-    ensures tuned { AnswersBy (λ given. (given.0.items, given.1)) result (IsTuning image.now machine.now loops.now (map (λ input. input.items) inputs.now)) }
+    ensures tuned { AnswersBy (λ given. (given.0.items, given.1)) result (IsTuning image.now machine.now loops.now
+        (map (λ input. input.items) inputs.now)) }
 
     // The choice never takes more than the image that runs at one level.
     ensures saves { IfOk result (λ given. given.1.energy ≤ given.1.hold_energy) }

@@ -33,7 +33,8 @@ AreDistinct numbers = (i j : ℕ) → i < j → j < length numbers → number_in
 
 -- x stands before y
 abbrev pub StandsBefore : List ℕ → ℕ → ℕ → Type 0
-StandsBefore numbers x y = (i : ℕ) × (j : ℕ) × (i < j) × (j < length numbers) × (number_in_place numbers i ≡ x) × (number_in_place numbers j ≡ y)
+StandsBefore numbers x y = (i : ℕ) × (j : ℕ) × (i < j) × (j < length numbers) × (number_in_place numbers i ≡ x) ×
+    (number_in_place numbers j ≡ y)
 
 -- the numbers below the count, each once, and each behind all to which its arcs lead
 pub record IsSorted (count : ℕ) (arcs : List Arc) (order : List ℕ) : Type 0 where

@@ -1,4 +1,4 @@
--- Bodies of natural loops (Aho, Lam, Sethi and Ullman, Compilers, section 9.6).
+-- Scaffold: bodies of natural loops (Aho, Lam, Sethi and Ullman, Compilers, section 9.6).
 use Rattle.std.specs.Prelude.{◌≡◌, ◌≢◌, ℕ, ◌<◌, ◌≤◌, Bool, true, ◌&&◌, ◌↔◌, ◌⊎◌, nat_le, nat_lt, List, slice_get, Option, Some, None}
 use Rattle.std.specs.List.{list_any}
 use Rattle.graph_algorithms.specs.declared.bodies.extent.NodeRange.{NodeRange}
@@ -10,7 +10,8 @@ HasEdge sources targets v u = (e : ℕ) × (slice_get sources e ≡ Some v) × (
 -- Edges lead from a node to the header, one or more, of which each starts within the extent.
 pub data LeadsWithin (sources : List ℕ) (targets : List (Option ℕ)) (extent : ℕ → Bool) (header : ℕ) : ℕ → Type 0 where
   at_once : {v : ℕ} → HasEdge sources targets v header → extent v ≡ true → LeadsWithin sources targets extent header v
-  onward : {v : ℕ} (u : ℕ) → HasEdge sources targets v u → extent v ≡ true → LeadsWithin sources targets extent header u → LeadsWithin sources targets extent header v
+  onward : {v : ℕ} (u : ℕ) → HasEdge sources targets v u → extent v ≡ true → LeadsWithin sources targets extent header u →
+      LeadsWithin sources targets extent header v
 
 abbrev pub IsIn : List ℕ → ℕ → Type 0
 IsIn nodes v = (p : ℕ) × (slice_get nodes p ≡ Some v)

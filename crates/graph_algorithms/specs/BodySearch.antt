@@ -1,4 +1,4 @@
--- What the search of a body keeps.
+-- Scaffold: what the search of a body keeps.
 use Rattle.std.specs.Prelude.{◌≡◌, ℕ, ◌+◌, ◌<◌, ◌≤◌, Bool, true, false, List, [], ◌∷◌, length, slice_get, slice_index_or, Option, Some, None, if◌then◌else◌}
 use Rattle.graph_algorithms.specs.Bodies.{HasEdge, IsIn}
 
@@ -32,4 +32,5 @@ IsSettled sources targets extent found u = (v : ℕ) → HasEdge sources targets
 -- the least unmarked node from which an edge leads to node u, if there is one
 abbrev pub IsLeastUnmarked : List ℕ → List (Option ℕ) → List Bool → ℕ → Option ℕ → Type 0
 IsLeastUnmarked sources targets found u None = (v : ℕ) → HasEdge sources targets v u → is_marked_at found v ≡ true
-IsLeastUnmarked sources targets found u (Some w) = HasEdge sources targets w u × (is_marked_at found w ≡ false) × ((v : ℕ) → HasEdge sources targets v u → is_marked_at found v ≡ false → w ≤ v)
+IsLeastUnmarked sources targets found u (Some w) = HasEdge sources targets w u × (is_marked_at found w ≡ false) ×
+    ((v : ℕ) → HasEdge sources targets v u → is_marked_at found v ≡ false → w ≤ v)

@@ -1,4 +1,4 @@
--- What a depth-first search keeps.
+-- Scaffold: what a depth-first search keeps.
 use Rattle.std.specs.Prelude.{◌≡◌, ◌≢◌, ℕ, suc, ◌+◌, ◌<◌, ◌≤◌, List, length, slice_index_or, Option, Some, None}
 use Rattle.std.specs.List.{sum_by}
 use Rattle.graph_algorithms.specs.declared.orders.Arc.{Arc}
@@ -46,7 +46,8 @@ pub record IsSearch (arcs : List Arc) (before next : List (Option ℕ)) (marks :
   pub order_marked : (i : ℕ) → i < length order → (number_in_place order i < length marks) × (mark marks (number_in_place order i) ≡ Done i)
   pub marked_order : (x i : ℕ) → mark marks x ≡ Done i → (i < length order) × (number_in_place order i ≡ x)
   pub path_arcs : (i : ℕ) → i + 1 < length path → HasArc arcs (number_in_place path i) (number_in_place path (i + 1))
-  pub done_arcs : (s i : ℕ) → s < length arcs → mark marks (arc_at arcs s).from ≡ Done i → (j : ℕ) × (j < i) × (mark marks (arc_at arcs s).to ≡ Done j)
+  pub done_arcs : (s i : ℕ) → s < length arcs → mark marks (arc_at arcs s).from ≡ Done i → (j : ℕ) × (j < i) ×
+      (mark marks (arc_at arcs s).to ≡ Done j)
   -- the next arc from a number, and those that it is past
   pub next_arc : (x s : ℕ) → arc_next next x ≡ Some s → (s < length arcs) × ((arc_at arcs s).from ≡ x)
   pub passed : (s : ℕ) → s < length arcs → IsAbove (arc_next next (arc_at arcs s).from) s → IsDone marks (arc_at arcs s).to
@@ -54,7 +55,8 @@ pub record IsSearch (arcs : List Arc) (before next : List (Option ℕ)) (marks :
 -- an arc leads from the end of the path back to a place on it
 abbrev pub IsBack : List Arc → List ℕ → Option ℕ → Type 0
 IsBack arcs path None = Unit {0}
-IsBack arcs path (Some start) = (start < length path) × ((i : ℕ) → i + 1 ≡ length path → HasArc arcs (number_in_place path i) (number_in_place path start))
+IsBack arcs path (Some start) = (start < length path) × ((i : ℕ) → i + 1 ≡ length path →
+    HasArc arcs (number_in_place path i) (number_in_place path start))
 
 -- what is left to do
 abbrev pub place : Option ℕ → ℕ

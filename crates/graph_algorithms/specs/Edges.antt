@@ -1,4 +1,4 @@
--- The edges of a graph, by number.
+-- Scaffold: the edges of a graph, by number.
 use Rattle.std.specs.Prelude.{◌≡◌, ℕ, ◌<◌, List, length, slice_get, Option, Some}
 use Rattle.graph_algorithms.specs.Keys.{ChainView, AreChains}
 

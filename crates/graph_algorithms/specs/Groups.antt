@@ -1,4 +1,4 @@
--- The bodies of at most 64 loops at once: by node a word, of which bit i speaks of loop i (Aho, Lam, Sethi and Ullman, Compilers, section 9.2,
+-- Scaffold: the bodies of at most 64 loops at once: by node a word, of which bit i speaks of loop i (Aho, Lam, Sethi and Ullman, Compilers, section 9.2,
 -- on sets of data-flow values as vectors of bits).
 use Rattle.std.specs.Prelude.{◌≡◌, ◌≢◌, ℕ, zero, suc, ◌<◌, ◌≤◌, ◌↔◌, ◌⊎◌, Bool, true, false, List, length, slice_get, slice_index, Some}
 use Rattle.std.specs.Int.{bit_at}
@@ -82,7 +82,8 @@ pub record Gains (P : ℕ → ℕ → Type 0) (found : List ℕ) (pending : List
   pub pending_size : length pending_then ≡ length pending
   pub kept : (v i : ℕ) → IsFlagged found v i → IsFlagged found_then v i
   pub only : (v i : ℕ) → IsFlagged found_then v i → IsFlagged found v i ⊎ P v i
-  pub quiet : (v : ℕ) → is_marked_at pending_then v ≡ false → (slice_index found_then v ≡ slice_index found v) × (is_marked_at pending v ≡ false)
+  pub quiet : (v : ℕ) → is_marked_at pending_then v ≡ false → (slice_index found_then v ≡ slice_index found v) ×
+      (is_marked_at pending v ≡ false)
 
 -- one of some bits, at a node in the extent of its loop
 abbrev pub IsPassedOn : List ℕ → ℕ → ℕ → ℕ → Type 0
@@ -95,13 +96,15 @@ IsPassedBack edges inside bits u v i = HasEdge edges.sources edges.targets v u �
 -- Bits of some words, and those that are passed back from them over edges, each from node to node in the extent of its loop.
 pub data ReachesBack (edges : EdgeView) (inside start : List ℕ) : ℕ → ℕ → Type 0 where
   here : {v i : ℕ} → IsFlagged start v i → ReachesBack edges inside start v i
-  back : {v i : ℕ} (u : ℕ) → HasEdge edges.sources edges.targets v u → IsFlagged inside v i → ReachesBack edges inside start u i → ReachesBack edges inside start v i
+  back : {v i : ℕ} (u : ℕ) → HasEdge edges.sources edges.targets v u → IsFlagged inside v i → ReachesBack edges inside start u i →
+      ReachesBack edges inside start v i
 
 -- what isn't pending is passed back
 pub record AreBitsSettled (edges : EdgeView) (inside found : List ℕ) (pending : List Bool) : Type 0 where
   pub found_size : length found ≡ edges.count
   pub pending_size : length pending ≡ edges.count
-  pub settled : (u : ℕ) → is_marked_at pending u ≡ false → (v i : ℕ) → IsPassedBack edges inside (slice_index found u) u v i → IsFlagged found v i
+  pub settled : (u : ℕ) → is_marked_at pending u ≡ false → (v i : ℕ) → IsPassedBack edges inside (slice_index found u) u v i →
+      IsFlagged found v i
 
 -- a search gained bits that are reached from those of some words
 pub record IsSearched (edges : EdgeView) (inside start found : List ℕ) (pending : List Bool) : Type 0 where

@@ -1,4 +1,4 @@
--- The places of a list by their keys.
+-- Scaffold: the places of a list by their keys.
 use Rattle.std.specs.Prelude.{◌≡◌, ℕ, ◌<◌, ◌≤◌, List, length, slice_index_or, Option, Some, None}
 
 -- the last place of each key, and for each place the one before it with the same key

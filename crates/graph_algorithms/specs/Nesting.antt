@@ -1,4 +1,4 @@
--- Loops by their bodies: the innermost one round a node, and the next one round a loop.
+-- Scaffold: loops by their bodies: the innermost one round a node, and the next one round a loop.
 -- Nested loops: Aho, Lam, Sethi and Ullman, Compilers, 9.6.
 use Rattle.std.specs.Prelude.{◌≡◌, ◌≢◌, ℕ, ◌<◌, ◌≤◌, List, [], map, length, slice_index_or, Option, Some, None, Vec}
 use Rattle.std.specs.List.{Contains}
@@ -27,7 +27,8 @@ IsRound bodies k l = (length (body_at bodies l) < length (body_at bodies k)) × 
 
 -- of two loops with a common node, the one that is not shorter is round the other: no two of them have bodies of one length
 abbrev pub AreNested : List (List ℕ) → Type 0
-AreNested bodies = (l k v : ℕ) → l ≢ k → HasNode bodies l v → HasNode bodies k v → length (body_at bodies l) ≤ length (body_at bodies k) → IsRound bodies k l
+AreNested bodies = (l k v : ℕ) → l ≢ k → HasNode bodies l v → HasNode bodies k v → length (body_at bodies l) ≤ length (body_at bodies k) →
+    IsRound bodies k l
 
 -- loops over the nodes below the count, each with its header
 pub record AreLoops (bodies : List (List ℕ)) (headers : List ℕ) (count : ℕ) : Type 0 where
@@ -39,7 +40,8 @@ pub record AreLoops (bodies : List (List ℕ)) (headers : List ℕ) (count : ℕ
 -- of the loops of a kind the one with the shortest body, or none where there is no loop of the kind
 abbrev pub IsShortestBody : List (List ℕ) → (ℕ → Type 0) → Option ℕ → Type 0
 IsShortestBody bodies Is None = (k : ℕ) → k < length bodies → Is k → ⊥
-IsShortestBody bodies Is (Some l) = (l < length bodies) × Is l × ((k : ℕ) → k < length bodies → k ≢ l → Is k → length (body_at bodies l) < length (body_at bodies k))
+IsShortestBody bodies Is (Some l) = (l < length bodies) × Is l × ((k : ℕ) → k < length bodies → k ≢ l → Is k →
+    length (body_at bodies l) < length (body_at bodies k))
 
 -- the least of the loops that have node v
 abbrev pub IsInnermostBody : List (List ℕ) → ℕ → Option ℕ → Type 0
@@ -55,7 +57,8 @@ IsNextAtHeader bodies headers l = IsShortestBody bodies (λ k. (k ≢ l) × HasN
 
 -- the other loops that have a loop's header are longer
 abbrev pub AreHeadersOuter : List (List ℕ) → List ℕ → Type 0
-AreHeadersOuter bodies headers = (l k : ℕ) → l < length bodies → k ≢ l → HasNode bodies k (header_in_list headers l) → length (body_at bodies l) < length (body_at bodies k)
+AreHeadersOuter bodies headers = (l k : ℕ) → l < length bodies → k ≢ l → HasNode bodies k (header_in_list headers l) →
+    length (body_at bodies l) < length (body_at bodies k)
 
 -- by node and by loop
 pub record NestingView : Type 0 where

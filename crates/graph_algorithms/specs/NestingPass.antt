@@ -1,4 +1,4 @@
--- What a pass over the loops keeps, the longest body first.
+-- Scaffold: what a pass over the loops keeps, the longest body first.
 use Rattle.std.specs.Prelude.{◌≡◌, ◌≢◌, ℕ, ◌<◌, ◌≤◌, List, length, slice_index_or, Option, Some, None, ◌⊎◌}
 use Rattle.graph_algorithms.specs.declared.nesting.ranks.Rank.{Rank}
 use Rattle.graph_algorithms.specs.Nesting.{HasNode, body_at, header_in_list, found_at}
@@ -18,7 +18,8 @@ pub record AreFalling (bodies : List (List ℕ)) (ranks : List Rank) : Type 0 wh
   pub within : (i : ℕ) → i < length ranks → (rank_at ranks i).number < length bodies
   pub whole : (l : ℕ) → l < length bodies → (i : ℕ) × (i < length ranks) × ((rank_at ranks i).number ≡ l)
   pub distinct : (i j : ℕ) → i < j → j < length ranks → (rank_at ranks i).number ≢ (rank_at ranks j).number
-  pub falling : (i j : ℕ) → i ≤ j → j < length ranks → length (body_at bodies (rank_at ranks j).number) ≤ length (body_at bodies (rank_at ranks i).number)
+  pub falling : (i j : ℕ) → i ≤ j → j < length ranks → length (body_at bodies (rank_at ranks j).number) ≤ length
+      (body_at bodies (rank_at ranks i).number)
 
 -- v is one of the first n nodes of a body
 abbrev pub IsAmong : List ℕ → ℕ → ℕ → Type 0
@@ -38,4 +39,5 @@ IsLastRank bodies ranks done v (Some l) = (i : ℕ) × (i < done) × ((rank_at r
 pub record IsNestingPass (bodies : List (List ℕ)) (headers : List ℕ) (ranks : List Rank) (done : ℕ) (innermost parent : List (Option ℕ)) : Type 0 where
   pub loops : length parent ≡ length bodies
   pub last : (v : ℕ) → v < length innermost → IsLastRank bodies ranks done v (found_at innermost v)
-  pub next : (j : ℕ) → j < done → IsLastRank bodies ranks j (header_in_list headers (rank_at ranks j).number) (found_at parent (rank_at ranks j).number)
+  pub next : (j : ℕ) → j < done → IsLastRank bodies ranks j (header_in_list headers (rank_at ranks j).number)
+      (found_at parent (rank_at ranks j).number)

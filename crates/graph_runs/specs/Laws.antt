@@ -1,4 +1,4 @@
--- The laws of runs over the graph of reached code, as statements for the contracts of functions.
+-- Scaffold: the laws of runs over the graph of reached code, as statements for the contracts of functions.
 use Rattle.std.specs.Prelude.{◌≡◌, ◌↔◌, ℕ, ◌+◌, ◌<◌, ◌≤◌, Bool, List, Some, Ok, option_and_then}
 use Rattle.std.specs.List.{sum_by}
 use Rattle.scale_base.specs.declared.stepping.Class.{Class}
@@ -43,12 +43,14 @@ run_cycles costs r = sum_by (λ x. costs x.class) r.steps
 
 -- A run whose returns go back to their calls is a list of transitions over the graph, at the cost of its steps.
 abbrev pub RunsAreTransitions : Type 0
-RunsAreTransitions = (t : Text) (env : Setting) (s : State) (code : Code) (l : Loops) (costs : Class → ℕ) → IsStartOver t env s → IsReachedCode t code →
+RunsAreTransitions = (t : Text) (env : Setting) (s : State) (code : Code) (l : Loops) (costs : Class → ℕ) → IsStartOver t env s →
+    IsReachedCode t code →
     (n : ℕ) (rs : List ℕ) → returns_so (run env s n).steps ≡ Some rs → IsRunOf t code l costs (run env s n) rs
 
 -- A kept run is a list of kept transitions over the graph, at the cost of its steps.
 abbrev pub KeptRunsAreKeptTransitions : Type 0
-KeptRunsAreKeptTransitions = (t : Text) (env : Setting) (s : State) (code : Code) (l : Loops) (extent : ℕ → ℕ → Bool) (costs : Class → ℕ) → IsStartOver t env s → IsProgramOf t code l extent →
+KeptRunsAreKeptTransitions = (t : Text) (env : Setting) (s : State) (code : Code) (l : Loops) (extent : ℕ → ℕ → Bool) (costs : Class → ℕ) →
+    IsStartOver t env s → IsProgramOf t code l extent →
     (n : ℕ) (c : Carried) → kept_at env s (by_extents l extent) n ≡ Some c → IsKeptRun t code l costs (run env s n) c
 
 -- A run that is kept where loops have to turn so often is kept, with the same counts, where they have to turn less often.
@@ -58,18 +60,23 @@ KeptRunsAreKeptByLess = (env : Setting) (s : State) (l : Loops) (trips : ℕ →
 
 -- So it costs at most the worst cycles of the program's entry, whatever the costs of the classes.
 abbrev pub KeptRunsAreBelow : Type 0
-KeptRunsAreBelow = (t : Text) (env : Setting) (s : State) (code : Code) (l : Loops) (extent : ℕ → ℕ → Bool) (costs : Class → ℕ) (nums : Numbers) → IsStartOver t env s → IsProgramOf t code l extent →
-    AreNumbers (text_graph t code) l (weights t code costs) nums → (n : ℕ) (c : Carried) → kept_at env s (by_extents l extent) n ≡ Some c → run_cycles costs (run env s n) ≤ nums.worst 0
+KeptRunsAreBelow = (t : Text) (env : Setting) (s : State) (code : Code) (l : Loops) (extent : ℕ → ℕ → Bool) (costs : Class → ℕ)
+    (nums : Numbers) → IsStartOver t env s → IsProgramOf t code l extent →
+    AreNumbers (text_graph t code) l (weights t code costs) nums → (n : ℕ) (c : Carried) → kept_at env s (by_extents l extent) n ≡ Some c →
+    run_cycles costs (run env s n) ≤ nums.worst 0
 
 -- After a kept run, its cycles and those that are left where its transitions lead are at most the worst cycles.
 abbrev pub CyclesLeftAreBelow : Type 0
-CyclesLeftAreBelow = (t : Text) (code : Code) (l : Loops) (extent : ℕ → ℕ → Bool) (costs : Class → ℕ) (nums : Numbers) → IsProgramOf t code l extent →
+CyclesLeftAreBelow = (t : Text) (code : Code) (l : Loops) (extent : ℕ → ℕ → Bool) (costs : Class → ℕ) (nums : Numbers) →
+    IsProgramOf t code l extent →
     AreNumbers (text_graph t code) l (weights t code costs) nums → (r : Run) (c : Carried) (kept : IsKeptRun t code l costs r c) →
-    run_cycles costs r + cycles_left (text_graph t code) l (weights t code costs) nums (after_transitions t code l kept.moves) ≤ nums.worst 0
+    run_cycles costs r + cycles_left (text_graph t code) l (weights t code costs) nums (after_transitions t code l kept.moves) ≤ nums.worst
+    0
 
 -- Where each class costs a cycle at least, a kept run that goes on has taken at most so many steps: so each run that stays kept ends.
 abbrev pub KeptRunsEnd : Type 0
-KeptRunsEnd = (t : Text) (env : Setting) (s : State) (code : Code) (l : Loops) (extent : ℕ → ℕ → Bool) (costs : Class → ℕ) (nums : Numbers) → IsStartOver t env s → IsProgramOf t code l extent →
+KeptRunsEnd = (t : Text) (env : Setting) (s : State) (code : Code) (l : Loops) (extent : ℕ → ℕ → Bool) (costs : Class → ℕ) (nums : Numbers)
+    → IsStartOver t env s → IsProgramOf t code l extent →
     AreNumbers (text_graph t code) l (weights t code costs) nums → ((class : Class) → 1 ≤ costs class) →
     (n : ℕ) (c : Carried) → kept_at env s (by_extents l extent) n ≡ Some c → (run env s n).standing ≡ GoesOn → n ≤ nums.worst 0
 
@@ -77,21 +84,29 @@ KeptRunsEnd = (t : Text) (env : Setting) (s : State) (code : Code) (l : Loops) (
 
 -- The run of an image starts over its text, whatever the machine's levels and the input.
 abbrev pub ImagesStartOver : Type 0
-ImagesStartOver = (file : List ℕ) (image : Image) (levels : ℕ) (input : List ℕ) → image_of file ≡ Ok image → IsStartOver (text_of image) (setting_of image levels input) (start_of image levels)
+ImagesStartOver = (file : List ℕ) (image : Image) (levels : ℕ) (input : List ℕ) → image_of file ≡ Ok image →
+    IsStartOver (text_of image) (setting_of image levels input) (start_of image levels)
 
 -- A kept run of an image is a list of kept transitions over the graph of its text.
 abbrev pub ImageRunsAreKeptTransitions : Type 0
-ImageRunsAreKeptTransitions = (file : List ℕ) (image : Image) (levels : ℕ) (input : List ℕ) (code : Code) (l : Loops) (extent : ℕ → ℕ → Bool) (costs : Class → ℕ) → image_of file ≡ Ok image →
-    IsProgramOf (text_of image) code l extent → (n : ℕ) (c : Carried) → kept_of image levels input (by_extents l extent) n ≡ Some c → IsKeptRun (text_of image) code l costs (run_of image levels input n) c
+ImageRunsAreKeptTransitions = (file : List ℕ) (image : Image) (levels : ℕ) (input : List ℕ) (code : Code) (l : Loops)
+    (extent : ℕ → ℕ → Bool) (costs : Class → ℕ) → image_of file ≡ Ok image →
+    IsProgramOf (text_of image) code l extent → (n : ℕ) (c : Carried) → kept_of image levels input (by_extents l extent) n ≡ Some c →
+    IsKeptRun (text_of image) code l costs (run_of image levels input n) c
 
 -- It costs at most the worst cycles of the entry.
 abbrev pub ImageRunsAreBelow : Type 0
-ImageRunsAreBelow = (file : List ℕ) (image : Image) (levels : ℕ) (input : List ℕ) (code : Code) (l : Loops) (extent : ℕ → ℕ → Bool) (costs : Class → ℕ) (nums : Numbers) → image_of file ≡ Ok image →
+ImageRunsAreBelow = (file : List ℕ) (image : Image) (levels : ℕ) (input : List ℕ) (code : Code) (l : Loops) (extent : ℕ → ℕ → Bool)
+    (costs : Class → ℕ) (nums : Numbers) → image_of file ≡ Ok image →
     IsProgramOf (text_of image) code l extent → AreNumbers (text_graph (text_of image) code) l (weights (text_of image) code costs) nums →
-    (n : ℕ) (c : Carried) → kept_of image levels input (by_extents l extent) n ≡ Some c → run_cycles costs (run_of image levels input n) ≤ nums.worst 0
+    (n : ℕ) (c : Carried) → kept_of image levels input (by_extents l extent) n ≡ Some c →
+    run_cycles costs (run_of image levels input n) ≤ nums.worst 0
 
 -- Where each class costs a cycle at least, it goes on for at most so many steps.
 abbrev pub ImageRunsEnd : Type 0
-ImageRunsEnd = (file : List ℕ) (image : Image) (levels : ℕ) (input : List ℕ) (code : Code) (l : Loops) (extent : ℕ → ℕ → Bool) (costs : Class → ℕ) (nums : Numbers) → image_of file ≡ Ok image →
-    IsProgramOf (text_of image) code l extent → AreNumbers (text_graph (text_of image) code) l (weights (text_of image) code costs) nums → ((class : Class) → 1 ≤ costs class) →
-    (n : ℕ) (c : Carried) → kept_of image levels input (by_extents l extent) n ≡ Some c → (run_of image levels input n).standing ≡ GoesOn → n ≤ nums.worst 0
+ImageRunsEnd = (file : List ℕ) (image : Image) (levels : ℕ) (input : List ℕ) (code : Code) (l : Loops) (extent : ℕ → ℕ → Bool)
+    (costs : Class → ℕ) (nums : Numbers) → image_of file ≡ Ok image →
+    IsProgramOf (text_of image) code l extent → AreNumbers (text_graph (text_of image) code) l (weights (text_of image) code costs) nums →
+    ((class : Class) → 1 ≤ costs class) →
+    (n : ℕ) (c : Carried) → kept_of image levels input (by_extents l extent) n ≡ Some c → (run_of image levels input n).standing ≡ GoesOn →
+    n ≤ nums.worst 0

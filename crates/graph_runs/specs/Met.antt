@@ -1,4 +1,4 @@
--- What shows that the hypotheses of the laws are met together: an image, its program with a loop, the numbers of that program, and the run of
+-- Scaffold: what shows that the hypotheses of the laws are met together: an image, its program with a loop, the numbers of that program, and the run of
 -- the image, which is kept to its exit.
 use Rattle.std.specs.Prelude.{◌≡◌, ℕ, Bool, true, List, Ok, is_some}
 use Rattle.scale_base.specs.declared.stepping.Class.{Class}
@@ -23,6 +23,7 @@ pub record RunHypothesesAreMet : Type 0 where
   pub read : image_of file ≡ Ok image
   pub program : IsProgramOf (text_of image) code loops extent
   pub looped : loops.loops ≡ 1
-  pub numbers : (costs : Class → ℕ) → (nums : Numbers) × AreNumbers (text_graph (text_of image) code) loops (weights (text_of image) code costs) nums
+  pub numbers : (costs : Class → ℕ) → (nums : Numbers) × AreNumbers (text_graph (text_of image) code) loops
+      (weights (text_of image) code costs) nums
   pub kept : (levels : ℕ) (input : List ℕ) → is_some (kept_of image levels input (by_extents loops extent) 3) ≡ true
   pub exits : (levels : ℕ) (input : List ℕ) → (run_of image levels input 3).standing ≡ HasExited 0

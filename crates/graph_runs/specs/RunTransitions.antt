@@ -58,7 +58,8 @@ returns_so xs = fold returns_more (Some []) xs
 -- transitions one after another, whatever the counts of loops
 abbrev pub AreTransitions : Graph → Loops → steps.GraphState → List steps.Transition → Type 0
 AreTransitions g l s [] = Unit {0}
-AreTransitions g l s (m ∷ ms) = ((steps.edge_of m < g.edges) × (s.node ≡ Some (g.source (steps.edge_of m))) × steps.IsTransition g s m) × AreTransitions g l (steps.after g l s m) ms
+AreTransitions g l s (m ∷ ms) = ((steps.edge_of m < g.edges) × (s.node ≡ Some (g.source (steps.edge_of m))) × steps.IsTransition g s m) ×
+    AreTransitions g l (steps.after g l s m) ms
 
 -- Where the transitions of a run that goes on lead: to the node at pc, which is reached, in the function that the innermost call calls.
 pub record TransitionsLeadTo (t : Text) (code : Code) (l : Loops) (r : Run) (rs : List ℕ) (moves : List steps.Transition) : Type 0 where

@@ -1,4 +1,4 @@
--- States of runs over a text: no step changes the text, and what is known of x17 holds.
+-- Scaffold: states of runs over a text: no step changes the text, and what is known of x17 holds.
 use Rattle.std.specs.Prelude.{◌≡◌, ℕ, ◌%◌, ◌≤◌, true, false, length, All, Some}
 use Rattle.scale_base.specs.declared.ranges.Range.{Range}
 use Rattle.scale_base.specs.Image.{PLAIN_END}

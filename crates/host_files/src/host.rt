@@ -63,7 +63,8 @@ pub trait Host {
 
     /// Makes a file of these bytes, in the place of one of that name.
     fn store(&mut self, name: &str, bytes: &[u8]) -> Result<(), HostError>
-        ensures stored { OnOk result ((state self.new).files ≡ option_map (λ files. insert files name.now bytes.now) (state self.old).files) }
+        ensures stored { OnOk result ((state self.new).files ≡ option_map (λ files. insert files name.now bytes.now)
+            (state self.old).files) }
         ensures failed { OnErr result (MayHoldAnything name.now (state self.old).files (state self.new).files) }
         ensures printed { (state self.new).printed ≡ (state self.old).printed }
         ensures faults { (state self.new).faults ≡ count_if (is_err result) (state self.old).faults }
@@ -71,8 +72,10 @@ pub trait Host {
         ensures only_failed { IfErr result (λ error. error ≡ HostError.Failed) }
 
         // A steady host fails for want of room alone.
-        ensures steady { IsSome (state self.old).room → (IsOk result ↔ HasStoreRoom (state self.old).room (length name.now + length bytes.now)) }
-        ensures spent { OnOk result ((state self.new).room ≡ option_map (store_spent (length name.now + length bytes.now)) (state self.old).room) }
+        ensures steady { IsSome (state self.old).room → (IsOk result ↔ HasStoreRoom (state self.old).room
+            (length name.now + length bytes.now)) }
+        ensures spent { OnOk result ((state self.new).room ≡ option_map (store_spent (length name.now + length bytes.now))
+            (state self.old).room) }
         ensures unspent { OnErr result ((state self.new).room ≡ (state self.old).room) };
 
     /// Prints bytes behind those that were printed before.

@@ -45,7 +45,16 @@ impl Model for MemHost {
 impl MemHost {
     /// A host with no files and no room, whose calls of these numbers, from 1, fail.
     pub fn new(alloc: Global, fail: Vec<u64>) -> MemHost
-        ensures { result ≡ record { files = map.empty; printed = []; room = record { stores = 0; bytes = 0 }; fail = fail.items; calls = 0; faults = 0; store_faults = 0 } }
+        ensures { result ≡ record {
+          files = map.empty;
+          printed = [];
+          room = record { stores = 0; bytes = 0 };
+          fail = fail.items;
+          calls =
+              0;
+          faults = 0;
+          store_faults = 0;
+        } }
     {
         MemHost {
             bytes: Vec::new(alloc),
@@ -98,7 +107,13 @@ impl MemHost {
 
     /// Makes room for so many stores and so many bytes more, where there is less.
     pub fn reserve(&mut self, files: u32, bytes: u64) -> Result<(), NoMemory>
-        ensures ok { OnOk result (self.new ≡ record self.old { room = record { stores = max files self.old.room.stores; bytes = max bytes self.old.room.bytes } }) }
+        ensures ok { OnOk result (self.new ≡ record self.old {
+          room = record {
+            stores = max files self.old.room.stores;
+            bytes =
+                max bytes self.old.room.bytes;
+          };
+        }) }
         ensures err { OnErr result (self.new ≡ self.old) }
     {
         let stores_left = files.max(self.stores_left);
@@ -139,7 +154,8 @@ impl Host for MemHost {
         ensures told { IfSome (mem_state self.old).files (λ files. LoadTells (map.get files name.now) limit result) }
         ensures untouched { IsUntouched (mem_state self.old) (mem_state self.new) }
         ensures faults { (mem_state self.new).faults ≡ count_if (is_failed result) (mem_state self.old).faults }
-        ensures steady { IfErr result (λ error. error ≡ HostError.Failed → IsSome (mem_state self.old).room → IfSome (mem_state self.old).files (λ files. map.get files name.now ≡ None)) }
+        ensures steady { IfErr result (λ error. error ≡ HostError.Failed → IsSome (mem_state self.old).room →
+            IfSome (mem_state self.old).files (λ files. map.get files name.now ≡ None)) }
 
         // It fails exactly where its number is listed or there is no such file, and nothing but the counts changes.
         ensures fails { is_failed result ≡ load_fails self.old name.now }
@@ -164,14 +180,17 @@ impl Host for MemHost {
     }
 
     fn store(&mut self, name: &str, bytes: &[u8]) -> Result<(), HostError>
-        ensures stored { OnOk result ((mem_state self.new).files ≡ option_map (λ files. map.insert files name.now bytes.now) (mem_state self.old).files) }
+        ensures stored { OnOk result ((mem_state self.new).files ≡ option_map (λ files. map.insert files name.now bytes.now)
+            (mem_state self.old).files) }
         ensures failed { OnErr result (MayHoldAnything name.now (mem_state self.old).files (mem_state self.new).files) }
         ensures printed { (mem_state self.new).printed ≡ (mem_state self.old).printed }
         ensures faults { (mem_state self.new).faults ≡ count_if (is_err result) (mem_state self.old).faults }
         ensures store_faults { (mem_state self.new).store_faults ≡ count_if (is_err result) (mem_state self.old).store_faults }
         ensures only_failed { IfErr result (λ error. error ≡ HostError.Failed) }
-        ensures steady { IsSome (mem_state self.old).room → (IsOk result ↔ HasStoreRoom (mem_state self.old).room (length name.now + length bytes.now)) }
-        ensures spent { OnOk result ((mem_state self.new).room ≡ option_map (store_spent (length name.now + length bytes.now)) (mem_state self.old).room) }
+        ensures steady { IsSome (mem_state self.old).room → (IsOk result ↔ HasStoreRoom (mem_state self.old).room
+            (length name.now + length bytes.now)) }
+        ensures spent { OnOk result ((mem_state self.new).room ≡ option_map (store_spent (length name.now + length bytes.now))
+            (mem_state self.old).room) }
         ensures unspent { OnErr result ((mem_state self.new).room ≡ (mem_state self.old).room) }
 
         // It fails exactly where its number is listed or there is no room, and then nothing but the counts changes.
@@ -192,7 +211,8 @@ impl Host for MemHost {
     }
 
     fn print(&mut self, bytes: &[u8]) -> Result<(), HostError>
-        ensures printed { OnOk result ((mem_state self.new).printed ≡ option_map (λ printed. printed ++ bytes.now) (mem_state self.old).printed) }
+        ensures printed { OnOk result ((mem_state self.new).printed ≡ option_map (λ printed. printed ++ bytes.now)
+            (mem_state self.old).printed) }
         ensures failed { OnErr result (PrintsPrefix bytes.now (mem_state self.old).printed (mem_state self.new).printed) }
         ensures files { (mem_state self.new).files ≡ (mem_state self.old).files }
         ensures faults { (mem_state self.new).faults ≡ count_if (is_err result) (mem_state self.old).faults }

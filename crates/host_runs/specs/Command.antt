@@ -32,11 +32,13 @@ HasFiles wants files = loading_of wants files ≢ Missing
 
 -- a steady host has room for whatever may be stored and printed in answer
 abbrev pub HasRoomForAll : Wants → Answering → Files → Option Room → Type 0
-HasRoomForAll wants Makes files room = (answer : Answer) → IsAnswerOf wants Makes files answer → HasRoom room answer.stores (length answer.text)
+HasRoomForAll wants Makes files room = (answer : Answer) → IsAnswerOf wants Makes files answer →
+    HasRoom room answer.stores (length answer.text)
 
 -- The host is steady, holds each file that the command loads, and has room for whatever it may store and print.
 abbrev pub IsReadyFor : Wants → Answering → HostState → Type 0
-IsReadyFor wants Makes host = IsSome host.room × IsSomeAnd host.files (λ files. HasFiles wants files × HasRoomForAll wants Makes files host.room)
+IsReadyFor wants Makes host = IsSome host.room × IsSomeAnd host.files (λ files. HasFiles wants files ×
+    HasRoomForAll wants Makes files host.room)
 
 -- where the files are told, the status is that of an answer, and that answer was given
 abbrev pub IsAnswered : Wants → Answering → ℕ → HostState → HostState → Type 0
@@ -45,7 +47,8 @@ IsAnswered wants Makes status old new = IfSome old.files (λ files. HasAnswer wa
 
 -- where the files are told, every answer that may be given has this status
 abbrev pub IsStatusOfAll : Wants → Answering → ℕ → HostState → Type 0
-IsStatusOfAll wants Makes status old = IfSome old.files (λ files. (answer : Answer) → IsAnswerOf wants Makes files answer → status ≡ answer.status)
+IsStatusOfAll wants Makes status old = IfSome old.files (λ files. (answer : Answer) → IsAnswerOf wants Makes files answer →
+    status ≡ answer.status)
 
 -- where the files are told, the stores of an answer that is no refusal stand, whether or not its text was printed
 abbrev pub StoresStand : Wants → Answering → HostState → HostState → Type 0

@@ -1,4 +1,4 @@
--- What loading all files of a command answers.
+-- Scaffold: what loading all files of a command answers.
 use Rattle.std.specs.Prelude.{◌≡◌, ◌<◌, ◌≤◌, ℕ, List, length, slice_get, IsSomeAnd, Result, Ok, Err, ⊤}
 use Rattle.std.specs.List.{AllZip}
 use Rattle.host_files.specs.declared.host.HostError.{HostError}

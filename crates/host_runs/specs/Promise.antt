@@ -23,4 +23,5 @@ Promising = List (List ℕ) → Files → Type 0
 
 -- what the files that are told afterwards promise, by those that are told before
 abbrev pub Promised : Wants → Promising → HostState → HostState → Type 0
-Promised wants Promise old new = IfSome old.files (λ files. IfSome new.files (λ after. IfWhole (loading_of wants files) (λ loaded. Promise loaded after)))
+Promised wants Promise old new = IfSome old.files (λ files. IfSome new.files (λ after. IfWhole (loading_of wants files)
+    (λ loaded. Promise loaded after)))

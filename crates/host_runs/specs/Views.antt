@@ -1,4 +1,4 @@
--- What the values of a run stand for.
+-- Scaffold: what the values of a run stand for.
 use Rattle.std.specs.Prelude.{ℕ, List, map, Option, Some, None, Result, Ok, Err, string_bytes, Vec}
 use Rattle.std.specs.declared.alloc.Global.{Global}
 use Rattle.scale_base.specs.declared.refusal.Refusal.{Refusal}

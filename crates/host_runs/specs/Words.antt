@@ -1,4 +1,4 @@
--- Why the words of the command line aren't there.
+-- Scaffold: why the words of the command line aren't there.
 use Rattle.std.specs.declared.io.ErrorKind.{ErrorKind}
 use Rattle.std.specs.declared.io.ErrorKind.TheVariants as kinds
 use Rattle.host_runs.specs.declared.words.NoWords.{NoWords}

@@ -30,11 +30,13 @@ pub fn load_all<H: Host>(
     alloc: Global,
     wants: &[Want<'_>],
 ) -> Result<AllLoaded, HostError>
-    ensures told { IfSome (H.state host.old).files (λ files. LoadsAs (want_views wants.now) (loading_of (want_views wants.now) files) result) }
+    ensures told { IfSome (H.state host.old).files (λ files. LoadsAs (want_views wants.now) (loading_of (want_views wants.now) files)
+        result) }
     ensures within { IfOk result (AreLoadedWithin (want_views wants.now)) }
     ensures untouched { IsUntouched (H.state host.old) (H.state host.new) }
     ensures faults { (H.state host.new).faults ≡ count_if (is_failed result) (H.state host.old).faults }
-    ensures steady { IfErr result (λ error. error ≡ HostError.Failed → IsSome (H.state host.old).room → IfSome (H.state host.old).files (λ files. loading_of (want_views wants.now) files ≡ Missing)) }
+    ensures steady { IfErr result (λ error. error ≡ HostError.Failed → IsSome (H.state host.old).room →
+        IfSome (H.state host.old).files (λ files. loading_of (want_views wants.now) files ≡ Missing)) }
 {
     let mut loaded = Vec::new(alloc);
     for (index, want) in wants.iter().enumerate() {

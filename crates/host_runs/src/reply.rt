@@ -53,7 +53,12 @@ impl Reply {
         text: String,
         status: u8,
     ) -> Result<Reply, NoMemory>
-        ensures { IfOk result (λ reply. reply_view reply ≡ record { stores = (out.now, bytes.items) ∷ []; text = string_bytes text; status = status }) }
+        ensures { IfOk result (λ reply. reply_view reply ≡ record {
+          stores = (out.now, bytes.items) ∷ [];
+          text =
+              string_bytes text;
+          status = status;
+        }) }
     {
         let name = String::from_str(alloc, out)?;
         let mut stores = Vec::new(alloc);

@@ -13,7 +13,8 @@ use Rattle.loop_forest.specs.Tree.{LoopView}
 use Rattle.answer_laws.specs.Alike.{AreAlikeRefusals}
 use Rattle.answer_laws.proofs.Laws.{code_refusals_agree, graphs_renumbered, graph_is_not_refused, loop_refusals_agree, tree_is_not_refused}
 use Rattle.foreign_scan.specs.Agree.{ScanIsNotRefused, CausesAgree, FoundAgree}
-use Rattle.answer_parts.specs.Parts.{Then, unscaled}
+use Rattle.answer_parts.specs.Parts.{Then}
+use Rattle.program_sources.specs.Sources.{sources_of}
 use Rattle.image_check.specs.Agreeing.{AreAlikeVerdicts, CheckedAnswersAgree}
 use Rattle.image_check.specs.Checked.{IsFileVerdict, IsProgramRefusal, IsProgramChecked, IsChecked}
 use Rattle.image_check.proofs.AgreeCounted.{IsListed}
@@ -62,7 +63,4 @@ module _ (found_agree : FoundAgree) (causes : CausesAgree) (not_both : ScanIsNot
 pub answers_agree : FoundAgree → CausesAgree → ScanIsNotRefused → CheckedAnswersAgree
 unfolding IsChecked
 answers_agree found_agree causes not_both image foreign machine loop_file =
-    then_alike (read_machine machine) _ (λ power.
-    then_alike (image_of image) _ (λ original.
-    then_alike (unscaled original.keyed_segment) _ (λ _.
-    then_alike (read_loops original loop_file) _ (λ notes. by_program found_agree causes not_both power original foreign notes))))
+    then_alike (sources_of image machine loop_file) _ (λ s. by_program found_agree causes not_both s.power s.view foreign s.notes)

@@ -20,17 +20,13 @@ use Rattle.code_text.specs.Text.{text_of}
 use Rattle.flow_graph.specs.FlowGraph.{FlowGraph, IsGraphOf}
 use Rattle.loop_forest.specs.Tree.{LoopView, IsTreeOf}
 use Rattle.rewritten_runs.specs.Promise.{KeepsThePromise}
-use Rattle.answer_parts.specs.Parts.{Then, unscaled}
+use Rattle.program_sources.specs.Sources.{sources_of}
+use Rattle.program_sources.proofs.Laws.{no_key, sources_parts, then_ok}
 use Rattle.rewritten_runs.specs.FilePromise.{FilesKeepThePromise}
 use Rattle.image_check.specs.Checked.{IsPassed, IsFileVerdict, IsChecked}
 use Rattle.image_check.specs.SafeRuns.{IsCheckedSafely, IsSafeVerdict}
-use Rattle.image_check.proofs.FileLaws.{no_key}
 use Rattle.image_check.proofs.Loaded.{loaded_small}
 use Rattle.image_check.proofs.Promised.{promise_kept}
-
-then_ok : {A B : Type 0} (part : Result A Refusal) (next : A → Result B Refusal → Type 0) (y : B) → Then part next (Ok y) → (x : A) × (part ≡ Ok x) × next x (Ok y)
-then_ok (Ok x) next y h = (x, refl, h)
-then_ok (Err refusal) next y h = let bad : ⊥ = cc in absurd bad
 
 -- what a yes went through
 record WentThrough (image foreign machine loop_file : List ℕ) (checked : Checked) : Type 0 where
@@ -57,24 +53,22 @@ passed_by power original (Ok other) notes v tree checked h = (other, refl, h)
 went_through : (image foreign machine loop_file : List ℕ) (checked : Checked) → IsChecked image foreign machine loop_file (Ok (Yes checked)) → WentThrough image foreign machine loop_file checked
 unfolding IsChecked
 went_through image foreign machine loop_file checked h =
-    let a = then_ok (read_machine machine) _ (Yes checked) h in
-    let b = then_ok (image_of image) _ (Yes checked) a.2 in
-    let c = then_ok (unscaled b.0.keyed_segment) _ (Yes checked) b.2 in
-    let d = then_ok (read_loops b.0 loop_file) _ (Yes checked) c.2 in
-    let e = d.2 in
-    let f = passed_by a.0 b.0 (image_of foreign) d.0 e.0 e.1 checked e.4 in
+    let read = then_ok (sources_of image machine loop_file) _ (Yes checked) h in
+    let s = sources_parts image machine loop_file read.0 read.1 in
+    let e = read.2 in
+    let f = passed_by read.0.power read.0.view (image_of foreign) read.0.notes e.0 e.1 checked e.4 in
     record {
-      power = a.0;
-      original = b.0;
+      power = read.0.power;
+      original = read.0.view;
       other = f.0;
-      notes = d.0;
+      notes = read.0.notes;
       v = e.0;
       tree = e.1;
-      power_is = a.1;
-      original_is = b.1;
+      power_is = s.power_is;
+      original_is = s.view_is;
       other_is = f.1;
-      plain = no_key b.0.keyed_segment c.1;
-      notes_are = d.1;
+      plain = no_key read.0.view.keyed_segment s.unscaled;
+      notes_are = s.notes_are;
       code_is = e.2;
       tree_is = e.3;
       passed = f.2;

@@ -1,4 +1,4 @@
--- Two answers of a check agree. As a statement for the contract of a function.
+-- Scaffold: two answers of a check agree. As a statement for the contract of a function.
 use Rattle.std.specs.Prelude.{◌≡◌, ℕ, List, Result, Ok, Err}
 use Rattle.scale_base.specs.declared.refusal.Refusal.{Refusal}
 use Rattle.scale_base.specs.declared.verdict.Verdict.{Verdict}
@@ -13,4 +13,5 @@ AreAlikeVerdicts (Ok one) (Err other) = ⊥
 AreAlikeVerdicts (Err one) (Ok other) = ⊥
 
 abbrev pub CheckedAnswersAgree : Type 0
-CheckedAnswersAgree = (image foreign machine loop_file : List ℕ) (one other : Result Verdict Refusal) → IsChecked image foreign machine loop_file one → IsChecked image foreign machine loop_file other → AreAlikeVerdicts one other
+CheckedAnswersAgree = (image foreign machine loop_file : List ℕ) (one other : Result Verdict Refusal) →
+    IsChecked image foreign machine loop_file one → IsChecked image foreign machine loop_file other → AreAlikeVerdicts one other

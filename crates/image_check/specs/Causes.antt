@@ -46,10 +46,12 @@ HasBadEntry power image l owner n told (Reset counter ∷ fs) i = ⊥
 HasBadEntry power image l owner n told (Count counter ∷ fs) i = ⊥
 
 -- an edge that leads to a node has an entry for level i that isn't safe
-abbrev pub IsBadLevel : PowerModel → (foreign : Image) → Graph → Loops → Owner → (ℕ → ℕ) → Numbers → Charged → Found → (e : ℕ) → Edge → (i : ℕ) → Type 0
+abbrev pub IsBadLevel : PowerModel → (foreign : Image) → Graph → Loops → Owner → (ℕ → ℕ) → Numbers → Charged → Found → (e : ℕ) → Edge →
+    (i : ℕ) → Type 0
 IsBadLevel power foreign g l owner w n least found e edge i =
     (to : ℕ) × (g.target e ≡ Some to)
-    × HasBadEntry power foreign l owner n (told_on g l w n least e (tail_cycles (costs_of power) (all_with_rows foreign l owner (found edge.at edge.kind)))) (found edge.at edge.kind) i
+    × HasBadEntry power foreign l owner n (told_on g l w n least e (tail_cycles (costs_of power)
+    (all_with_rows foreign l owner (found edge.at edge.kind)))) (found edge.at edge.kind) i
 
 -- The first of them: at the least address, at one address on the untaken edge before the taken one, and there for the least level, over all rows of the edge.
 pub record IsFirstBadLevel (power : PowerModel) (foreign : Image) (g : Graph) (code : Code) (l : Loops) (owner : Owner) (w : ℕ → ℕ) (n : Numbers) (least : Charged) (found : Found) (at i : ℕ) : Type 0 where
@@ -58,5 +60,6 @@ pub record IsFirstBadLevel (power : PowerModel) (foreign : Image) (g : Graph) (c
   pub there : slice_get code.edges number ≡ Some edge
   pub starts : edge.at ≡ at
   pub bad : IsBadLevel power foreign g l owner w n least found number edge i
-  pub first : (d j : ℕ) (other : Edge) → slice_get code.edges d ≡ Some other → IsBadLevel power foreign g l owner w n least found d other j → ComesBefore other edge → ⊥
+  pub first : (d j : ℕ) (other : Edge) → slice_get code.edges d ≡ Some other →
+      IsBadLevel power foreign g l owner w n least found d other j → ComesBefore other edge → ⊥
   pub lowest : (j : ℕ) → j < i → IsBadLevel power foreign g l owner w n least found number edge j → ⊥

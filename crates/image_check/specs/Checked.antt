@@ -26,7 +26,8 @@ use Rattle.flow_graph.specs.Refused.{IsRefusedBy}
 use Rattle.loop_forest.specs.Tree.{LoopView, loops, IsTreeOf, IsTreeRefusal}
 use Rattle.paid_runs.specs.Timely.{weights_of}
 use Rattle.foreign_scan.specs.Scanned.{Found, IsScanned, IsFirstWhy}
-use Rattle.answer_parts.specs.Parts.{Then, unscaled}
+use Rattle.answer_parts.specs.Parts.{Then}
+use Rattle.program_sources.specs.Sources.{sources_of}
 use Rattle.image_check.specs.Safe.{Owner, sites_of, AreOwners, IsSafeImage}
 use Rattle.image_check.specs.Causes.{IsFirstBadCounter, IsFirstBadLevel}
 
@@ -36,7 +37,8 @@ graph_by original v = text_graph (text_of original) v.code
 
 -- what its edges cost with the stubs whose fragments are found
 abbrev pub weights_with : PowerModel → (original foreign : Image) → FlowGraph → LoopView → Owner → Found → ℕ → ℕ
-weights_with power original foreign v tree owner found = weights_of power (text_of original) v.code (sites_of original foreign v.code (loops v tree) owner found)
+weights_with power original foreign v tree owner found = weights_of power (text_of original) v.code
+    (sites_of original foreign v.code (loops v tree) owner found)
 
 -- the level of the key
 abbrev pub key_level : PowerModel → Image → ℕ
@@ -100,7 +102,8 @@ pub record IsMisled (power : PowerModel) (original foreign : Image) (v : FlowGra
   pub level : HasLevel power original foreign v tree found owner n
   pub in_time : time_at power (key_level power foreign) (n.worst 0) ≤ power.deadline
   pub least_is : AreCharged (graph_by original v) (loops v tree) (weights_with power original foreign v tree owner found) least
-  pub bad : IsFirstBadLevel power foreign (graph_by original v) v.code (loops v tree) owner (weights_with power original foreign v tree owner found) n least found at from
+  pub bad : IsFirstBadLevel power foreign (graph_by original v) v.code (loops v tree) owner
+      (weights_with power original foreign v tree owner found) n least found at from
 
 -- of an image that is read, the cause is the first that holds
 abbrev pub IsFirstCause : PowerModel → (original foreign : Image) → FlowGraph → LoopView → Why → Type 0
@@ -141,19 +144,17 @@ IsFileVerdict power original (Ok foreign) notes v tree verdict = IsImageVerdict 
 
 -- the reached code of the original is refused, or the loops of its graph are
 abbrev pub IsProgramRefusal : Image → List LoopNote → Refusal → Type 0
-IsProgramRefusal original notes refusal = IsRefusedBy (text_of original) refusal ⊎ ((v : FlowGraph) × IsGraphOf (text_of original) v × IsTreeRefusal v notes refusal)
+IsProgramRefusal original notes refusal = IsRefusedBy (text_of original) refusal ⊎
+    ((v : FlowGraph) × IsGraphOf (text_of original) v × IsTreeRefusal v notes refusal)
 
 -- its program, with the loops of the notes, and the verdict over them; or the refusal
 abbrev pub IsProgramChecked : PowerModel → Image → List ℕ → List LoopNote → Result Verdict Refusal → Type 0
 IsProgramChecked power original foreign notes (Err refusal) = IsProgramRefusal original notes refusal
 IsProgramChecked power original foreign notes (Ok verdict) =
-    (v : FlowGraph) × (tree : LoopView) × IsGraphOf (text_of original) v × IsTreeOf v notes tree × IsFileVerdict power original (image_of foreign) notes v tree verdict
+    (v : FlowGraph) × (tree : LoopView) × IsGraphOf (text_of original) v × IsTreeOf v notes tree ×
+    IsFileVerdict power original (image_of foreign) notes v tree verdict
 
 -- The verdict, or the first refusal: of the machine file, of the original, of its keyed segment, of the loop file, of the code, and of its loops.
 unfoldable pub IsChecked : (image foreign machine loops : List ℕ) → Result Verdict Refusal → Type 0
 IsChecked image foreign machine loop_file answer =
-    Then (read_machine machine) (λ power.
-    Then (image_of image) (λ original.
-    Then (unscaled original.keyed_segment) (λ _.
-    Then (read_loops original loop_file) (λ notes.
-    IsProgramChecked power original foreign notes)))) answer
+    Then (sources_of image machine loop_file) (λ s. IsProgramChecked s.power s.view foreign s.notes) answer

@@ -1,4 +1,4 @@
--- What the parts of `check` know, on the way to its verdict.
+-- Scaffold: what the parts of `check` know, on the way to its verdict.
 use Rattle.std.specs.Prelude.{◌≡◌, ℕ, ◌<◌, ◌≤◌, ◌^◌, length, slice_get, slice_index, None, Some}
 use Rattle.scale_base.specs.Image.{Image}
 use Rattle.power_model.specs.Numbers.{IsPowerModel}
@@ -58,5 +58,6 @@ pub record MeetsDeadline (p : Original) (r : Received) (n : Numbers) (start : �
 -- the worst cycles of what the stubs add
 abbrev pub AreExtraCycles : Original → Received → Found → ℕ → Type 0
 AreExtraCycles p r found cycles = (more : Numbers)
-    × AreNumbers (graph p.graph) (loops p.graph p.tree) (extra_site_weights (text_of p.view) p.graph.code (costs_of p.power) (sites_of p.view r.view p.graph.code (loops p.graph p.tree) (owner_by r.owners) found)) more
+    × AreNumbers (graph p.graph) (loops p.graph p.tree) (extra_site_weights (text_of p.view) p.graph.code (costs_of p.power)
+    (sites_of p.view r.view p.graph.code (loops p.graph p.tree) (owner_by r.owners) found)) more
     × (cycles ≡ more.worst 0)

@@ -1,4 +1,4 @@
--- The least level for which an entry of a word, or of a table, is not safe.
+-- Scaffold: the least level for which an entry of a word, or of a table, is not safe.
 use Rattle.std.specs.Prelude.{◌≡◌, ℕ, ◌+◌, ◌-◌, ◌*◌, ◌/◌, ◌%◌, ◌^◌, ◌<◌, ◌≤◌, ◌==◌, ◌&&◌, ◌||◌, nat_lt, Bool, false, Option, Some, None}
 use Rattle.scale_base.specs.State.{word_at}
 use Rattle.power_model.specs.Numbers.{PowerModel}
@@ -43,7 +43,8 @@ abbrev pub told_row : ExitTold → ℕ → EdgeNumbers
 told_row exit row = at_row exit.bound exit.iteration exit.shift (told_numbers exit.told) row
 
 abbrev pub IsExitLevel : PowerModel → (ℕ → ℕ) → ExitTold → (table : ℕ) → Option ℕ → Type 0
-IsExitLevel power bytes exit table = IsTableLevel power bytes (told_numbers exit.told) exit.bound exit.iteration exit.shift table (last_row exit + 1)
+IsExitLevel power bytes exit table = IsTableLevel power bytes (told_numbers exit.told) exit.bound exit.iteration exit.shift table
+    (last_row exit + 1)
 
 -- the rows up to the last one are among `count` words, of which word 0 has the address 4 * first
 abbrev pub AreRowsAmong : (first count table last : ℕ) → Type 0
@@ -51,7 +52,8 @@ AreRowsAmong first count table last = (table % 4 ≡ 0) × (first ≤ table / 4)
 
 -- the last row with entry j for level i is one of those from word `start` on, and the entry isn't safe there
 abbrev pub IsBadLast : PowerModel → ExitTold → (start : ℕ) → LastPlaces → (i j : ℕ) → Type 0
-IsBadLast power exit start places i j = (start < last_of places i j) × (is_safe power (told_row exit (last_of places i j - 1 - start)) i j ≡ false)
+IsBadLast power exit start places i j = (start < last_of places i j) × (is_safe power (told_row exit (last_of places i j - 1 - start)) i j
+    ≡ false)
 
 -- that of some entry
 abbrev pub HasBadLast : PowerModel → ExitTold → (start : ℕ) → LastPlaces → (i : ℕ) → Type 0

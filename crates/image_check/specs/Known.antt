@@ -1,4 +1,4 @@
--- What a check knows behind the scan, as lists: the fragments that a scan found, the loops of counters, and the numbers under weights.
+-- Scaffold: what a check knows behind the scan, as lists: the fragments that a scan found, the loops of counters, and the numbers under weights.
 use Rattle.std.specs.Prelude.{◌≡◌, ℕ, ◌*◌, ◌^◌, ◌<◌, ◌≤◌, Bool, List, length, slice_get, slice_index_or, Option, Some, None, Result, Ok, Err}
 use Rattle.scale_base.specs.Image.{Image}
 use Rattle.power_model.specs.Numbers.{PowerModel}
@@ -63,10 +63,13 @@ pub record AreKnown (original foreign : Image) (v : FlowGraph) (t : LoopView) (s
   pub weighed : AreWeighed v t w n least worst ends
 
 abbrev pub HasKnown : (foreign : Image) → FlowGraph → LoopView → ScannedSites → List (Option ℕ) → WorstView → LeastView → Type 0
-HasKnown foreign v t s owners worst ends = (original : Image) × (found : Found) × (w : ℕ → ℕ) × (n : Numbers) × (least : Charged) × AreKnown original foreign v t s owners worst ends found w n least
+HasKnown foreign v t s owners worst ends = (original : Image) × (found : Found) × (w : ℕ → ℕ) × (n : Numbers) × (least : Charged) ×
+    AreKnown original foreign v t s owners worst ends found w n least
 
 -- all entries are safe, or the address and the level of the first that is not
-abbrev pub IsLevelsAnswer : PowerModel → (foreign : Image) → FlowGraph → Loops → Owner → (ℕ → ℕ) → Numbers → Charged → Found → Option (ℕ × ℕ) → Type 0
+abbrev pub IsLevelsAnswer : PowerModel → (foreign : Image) → FlowGraph → Loops → Owner → (ℕ → ℕ) → Numbers → Charged → Found →
+    Option (ℕ × ℕ) → Type 0
 IsLevelsAnswer power foreign v l owner w n least found None =
     (e : ℕ) → e < length v.code.edges → AreSafeOn power foreign (graph v) l owner w n least found e (slice_get v.code.edges e)
-IsLevelsAnswer power foreign v l owner w n least found (Some x) = IsFirstBadLevel power foreign (graph v) v.code l owner w n least found x.0 x.1
+IsLevelsAnswer power foreign v l owner w n least found (Some x) = IsFirstBadLevel power foreign (graph v) v.code l owner w n least found
+    x.0 x.1

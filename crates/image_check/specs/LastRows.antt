@@ -1,4 +1,4 @@
--- Where each entry of each level stands last, among words that are counted from 0 on.
+-- Scaffold: where each entry of each level stands last, among words that are counted from 0 on.
 use Rattle.std.specs.Prelude.{◌≡◌, ℕ, ◌+◌, ◌-◌, ◌*◌, ◌/◌, ◌<◌, ◌≤◌, List, length, slice_index, slice_index_or, Option, Some, None}
 use Rattle.scale_base.specs.State.{word_at}
 use Rattle.scale_base.specs.declared.ranges.Keyed.{Keyed}
@@ -39,4 +39,5 @@ pub record IsOneMore (old : LastPlaces) (word number : ℕ) (new : LastPlaces) :
 
 -- n of them, before the words 0, 64, 128 and so on
 abbrev pub AreBlocks : (ℕ → ℕ) → (n : ℕ) → List LastPlaces → Type 0
-AreBlocks words n blocks = (length blocks ≡ n) × ((b : ℕ) (other : LastPlaces) → b < n → AreLastBefore words (64 * b) (slice_index_or blocks b other))
+AreBlocks words n blocks = (length blocks ≡ n) × ((b : ℕ) (other : LastPlaces) → b < n →
+    AreLastBefore words (64 * b) (slice_index_or blocks b other))

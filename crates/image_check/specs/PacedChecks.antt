@@ -1,4 +1,4 @@
--- When there are budgets by which an image is paced: just where its entries pay, and the least budgets that they need are up to the deadline.
+-- Scaffold: when there are budgets by which an image is paced: just where its entries pay, and the least budgets that they need are up to the deadline.
 use Rattle.std.specs.Prelude.{◌≡◌, ℕ, ◌+◌, ◌*◌, ◌/◌, ◌^◌, ◌<◌, ◌≤◌, Bool, List, [], ◌∷◌, length, slice_get, slice_index_or, Some}
 use Rattle.scale_base.specs.Image.{Image, loaded_byte}
 use Rattle.scale_base.specs.Run.{starting_level}
@@ -53,7 +53,8 @@ pub record IsLowerOn (power : PowerModel) (image : Image) (g : Graph) (code : Co
   pub there : slice_get code.edges number ≡ Some edge
   pub target : ℕ
   pub leads : g.target number ≡ Some target
-  pub entry : IsLowerIn power image l owner n (told_on g l w n least number (tail_cycles (costs_of power) (all_with_rows image l owner (found edge.at edge.kind)))) (found edge.at edge.kind) x
+  pub entry : IsLowerIn power image l owner n (told_on g l w n least number (tail_cycles (costs_of power)
+      (all_with_rows image l owner (found edge.at edge.kind)))) (found edge.at edge.kind) x
 
 -- a list of just the entries of which something holds
 pub record IsListOf (P : Entry → Type 0) (xs : List Entry) : Type 0 where
@@ -69,17 +70,27 @@ pays_alone power told i j = pays power told.least i j
 pub record IsPayingImage (power : PowerModel) (original foreign : Image) (code : Code) (l : Loops) (extent : ℕ → ℕ → Bool) (found : Found) (owner : Owner) (n : Numbers) (least : Charged) (more : Numbers) : Type 0 where
   pub scanned : IsScanned original foreign code l found
   pub owners : AreOwners (text_graph (text_of original) code) code l found owner
-  pub analyzed : IsAnalyzed (text_graph (text_of original) code) l extent (weights_of power (text_of original) code (sites_of original foreign code l owner found)) n
-  pub least_is : AreCharged (text_graph (text_of original) code) l (weights_of power (text_of original) code (sites_of original foreign code l owner found)) least
-  pub added : IsAnalyzed (text_graph (text_of original) code) l extent (extra_site_weights (text_of original) code (costs_of power) (sites_of original foreign code l owner found)) more
+  pub analyzed : IsAnalyzed (text_graph (text_of original) code) l extent (weights_of power (text_of original) code
+      (sites_of original foreign code l owner found)) n
+  pub least_is : AreCharged (text_graph (text_of original) code) l (weights_of power (text_of original) code
+      (sites_of original foreign code l owner found)) least
+  pub added : IsAnalyzed (text_graph (text_of original) code) l extent (extra_site_weights (text_of original) code (costs_of power)
+      (sites_of original foreign code l owner found)) more
   pub start : starting_level (length power.levels) foreign.keyed_segment < length power.levels
   pub levels : (e : ℕ) → e < (text_graph (text_of original) code).edges
-      → AreOnBy power (pays_alone power) foreign (text_graph (text_of original) code) l owner (weights_of power (text_of original) code (sites_of original foreign code l owner found)) n least found e (slice_get code.edges e)
+      → AreOnBy power (pays_alone power) foreign (text_graph (text_of original) code) l owner
+      (weights_of power (text_of original) code (sites_of original foreign code l owner found)) n least found e (slice_get code.edges e)
 
 -- The law: the least budgets of the entries decide, and pace the image where any do.
 abbrev pub LeastBudgetsDecide : Type 0
-LeastBudgetsDecide = (power : PowerModel) (original foreign : Image) (code : Code) (l : Loops) (extent : ℕ → ℕ → Bool) (found : Found) (owner : Owner) (n : Numbers) (least : Charged) (more : Numbers) (xs : List Entry) →
-    IsListOf (IsLowerOn power foreign (text_graph (text_of original) code) code l owner (weights_of power (text_of original) code (sites_of original foreign code l owner found)) n least found) xs →
+LeastBudgetsDecide = (power : PowerModel) (original foreign : Image) (code : Code) (l : Loops) (extent : ℕ → ℕ → Bool) (found : Found)
+    (owner : Owner) (n : Numbers) (least : Charged) (more : Numbers) (xs : List Entry) →
+    IsListOf (IsLowerOn power foreign (text_graph (text_of original) code) code l owner
+    (weights_of power (text_of original) code (sites_of original foreign code l owner found)) n least found) xs →
     let budgets = least_budgets power xs (starting_level (length power.levels) foreign.keyed_segment) (n.worst 0) in
-    (IsPayingImage power original foreign code l extent found owner n least more → ((i : ℕ) → i < length power.levels → budgets i ≤ power.deadline) → IsPacedImage power budgets original foreign code l extent found owner n least more)
-    × ((budget : ℕ → ℕ) → IsPacedImage power budget original foreign code l extent found owner n least more → IsPayingImage power original foreign code l extent found owner n least more × ((i : ℕ) → i < length power.levels → budgets i ≤ power.deadline))
+    (IsPayingImage power original foreign code l extent found owner n least more →
+    ((i : ℕ) → i < length power.levels → budgets i ≤ power.deadline) → IsPacedImage power budgets original foreign code l extent found
+    owner n least more)
+    × ((budget : ℕ → ℕ) → IsPacedImage power budget original foreign code l extent found owner n least more →
+    IsPayingImage power original foreign code l extent found owner n least more ×
+    ((i : ℕ) → i < length power.levels → budgets i ≤ power.deadline))

@@ -1,4 +1,4 @@
--- A rewritten image is a safe one. As a statement for the contract of a function.
+-- Scaffold: a rewritten image is a safe one. As a statement for the contract of a function.
 use Rattle.std.specs.Prelude.{◌≡◌, ℕ, ◌≤◌, Bool, List, length, Some, None, Ok}
 use Rattle.scale_base.specs.Image.{Image, image_of}
 use Rattle.scale_base.specs.Run.{starting_level}
@@ -27,7 +27,11 @@ pub record IsSafeAt (power : PowerModel) (original foreign : Image) (code : Code
 -- Where a program's worst cycles under the stored weights are in time from a starting level on, and its stubs are in reach: the image of the file that is stored is
 -- safe. Its numbers are those of the program, under the stored weights and under what the stubs add.
 abbrev pub RewrittenImagesAreSafe : Type 0
-RewrittenImagesAreSafe = (power : PowerModel) → IsPowerModel power → (file : List ℕ) (original foreign : Image) (notes : List LoopNote) (v : FlowGraph) (tree : LoopView) (plain stored extra : Numbers) (least : Charged) (sites : List Site) (base start : ℕ)
-    → image_of file ≡ Ok original → original.keyed_segment ≡ None → length file ≤ 4194304 → IsWeighed power original notes v tree plain stored → stored.worst 0 ≤ 281474976710656 → slowest_of power (stored.worst 0) ≡ Some start
-    → HasStubs power original v tree plain stored extra least sites base → out_of_reach base sites ≡ None → image_of (rewritten_file original sites base start) ≡ Ok foreign
+RewrittenImagesAreSafe = (power : PowerModel) → IsPowerModel power → (file : List ℕ) (original foreign : Image) (notes : List LoopNote)
+    (v : FlowGraph) (tree : LoopView) (plain stored extra : Numbers) (least : Charged) (sites : List Site) (base start : ℕ)
+    → image_of file ≡ Ok original → original.keyed_segment ≡ None → length file ≤ 4194304 →
+    IsWeighed power original notes v tree plain stored → stored.worst 0 ≤ 281474976710656 →
+    slowest_of power (stored.worst 0) ≡ Some start
+    → HasStubs power original v tree plain stored extra least sites base → out_of_reach base sites ≡ None →
+    image_of (rewritten_file original sites base start) ≡ Ok foreign
     → IsSafeAt power original foreign v.code (loops v tree) (noted_loops notes).inside stored least extra start

@@ -52,7 +52,8 @@ words_from image table (suc n) = word_at (loaded_byte image) table ∷ words_fro
 -- a fragment, of which the rows up to the bound's are read
 abbrev pub with_rows : Image → Loops → Owner → ForeignFragment → Fragment
 with_rows image l owner (Switch word) = fragments.Switch word
-with_rows image l owner (Exit counter shift table) = fragments.Exit counter shift (words_from image table (owner_bound l (owner counter) / 2 ^ shift + 1))
+with_rows image l owner (Exit counter shift table) = fragments.Exit counter shift
+    (words_from image table (owner_bound l (owner counter) / 2 ^ shift + 1))
 with_rows image l owner (Reset counter) = fragments.Reset counter
 with_rows image l owner (Count counter) = fragments.Count counter
 
@@ -63,8 +64,10 @@ all_with_rows image l owner fs = map (with_rows image l owner) fs
 
 abbrev pub place_by : Image → Loops → Owner → ℕ → (EdgeKind → List ForeignFragment) → Option Instr → Place
 place_by image l owner at found (Some (instr.Branch op rs1 rs2 offset)) =
-    Forked op rs1 rs2 (way (plus at 4) (all_with_rows image l owner (found Untaken))) (way (moved_by at offset) (all_with_rows image l owner (found Taken)))
-place_by image l owner at found (Some (instr.Jal rd offset)) = Straight (way (moved_by at offset) (all_with_rows image l owner (found Jump)))
+    Forked op rs1 rs2 (way (plus at 4) (all_with_rows image l owner (found Untaken)))
+    (way (moved_by at offset) (all_with_rows image l owner (found Taken)))
+place_by image l owner at found (Some (instr.Jal rd offset)) = Straight (way (moved_by at offset)
+    (all_with_rows image l owner (found Jump)))
 place_by image l owner at found i = Straight (way at [])
 
 abbrev pub foreign_site : (original foreign : Image) → Loops → Owner → Found → ℕ → Site
@@ -75,7 +78,8 @@ is_patched_word original foreign at = is_changed original foreign at
 
 -- the nodes whose words are changed
 abbrev pub sites_of : (original foreign : Image) → Code → Loops → Owner → Found → List Site
-sites_of original foreign code l owner found = map (foreign_site original foreign l owner found) (filter (is_patched_word original foreign) code.nodes)
+sites_of original foreign code l owner found = map (foreign_site original foreign l owner found)
+    (filter (is_patched_word original foreign) code.nodes)
 
 -- ---- counters
 
@@ -129,7 +133,8 @@ abbrev pub IsWordBy : PowerModel → (EdgeNumbers → ℕ → ℕ → Bool) → 
 IsWordBy power meets told word = (i : ℕ) → i < length power.levels → IsEntryBy meets told i (four_bits word i)
 
 -- the words of the first fragment of an edge, where it chooses a level. The row j of a table counts on the turns that are left behind its counts.
-abbrev pub AreWordsBy : PowerModel → (EdgeNumbers → ℕ → ℕ → Bool) → Image → Loops → Owner → Numbers → EdgeNumbers → List ForeignFragment → Type 0
+abbrev pub AreWordsBy : PowerModel → (EdgeNumbers → ℕ → ℕ → Bool) → Image → Loops → Owner → Numbers → EdgeNumbers → List ForeignFragment →
+    Type 0
 AreWordsBy power meets image l owner n told [] = Unit {0}
 AreWordsBy power meets image l owner n told (Switch word ∷ fs) = IsWordBy power meets told word
 AreWordsBy power meets image l owner n told (Exit counter shift table ∷ fs) =
@@ -139,7 +144,8 @@ AreWordsBy power meets image l owner n told (Reset counter ∷ fs) = Unit {0}
 AreWordsBy power meets image l owner n told (Count counter ∷ fs) = Unit {0}
 
 -- the same of an edge that leads to a node
-abbrev pub AreOnBy : PowerModel → (EdgeNumbers → ℕ → ℕ → Bool) → Image → Graph → Loops → Owner → (ℕ → ℕ) → Numbers → Charged → Found → ℕ → Option Edge → Type 0
+abbrev pub AreOnBy : PowerModel → (EdgeNumbers → ℕ → ℕ → Bool) → Image → Graph → Loops → Owner → (ℕ → ℕ) → Numbers → Charged → Found → ℕ →
+    Option Edge → Type 0
 AreOnBy power meets image g l owner w n least found e None = Unit {0}
 AreOnBy power meets image g l owner w n least found e (Some edge) =
     (to : ℕ) → g.target e ≡ Some to → let fs = found edge.at edge.kind in
@@ -161,11 +167,15 @@ AreSafeOn power image g l owner w n least found e edge = AreOnBy power (meets_bo
 pub record IsSafeImage (power : PowerModel) (original foreign : Image) (code : Code) (l : Loops) (extent : ℕ → ℕ → Bool) (found : Found) (owner : Owner) (n : Numbers) (least : Charged) (more : Numbers) : Type 0 where
   pub scanned : IsScanned original foreign code l found
   pub owners : AreOwners (text_graph (text_of original) code) code l found owner
-  pub analyzed : IsAnalyzed (text_graph (text_of original) code) l extent (weights_of power (text_of original) code (sites_of original foreign code l owner found)) n
-  pub least_is : AreCharged (text_graph (text_of original) code) l (weights_of power (text_of original) code (sites_of original foreign code l owner found)) least
-  pub added : IsAnalyzed (text_graph (text_of original) code) l extent (extra_site_weights (text_of original) code (costs_of power) (sites_of original foreign code l owner found)) more
+  pub analyzed : IsAnalyzed (text_graph (text_of original) code) l extent (weights_of power (text_of original) code
+      (sites_of original foreign code l owner found)) n
+  pub least_is : AreCharged (text_graph (text_of original) code) l (weights_of power (text_of original) code
+      (sites_of original foreign code l owner found)) least
+  pub added : IsAnalyzed (text_graph (text_of original) code) l extent (extra_site_weights (text_of original) code (costs_of power)
+      (sites_of original foreign code l owner found)) more
   pub not_long : n.worst 0 ≤ 2 ^ 48
   pub start : starting_level (length power.levels) foreign.keyed_segment < length power.levels
   pub in_time : n.worst 0 * period power (starting_level (length power.levels) foreign.keyed_segment) ≤ power.deadline
   pub levels : (e : ℕ) → e < (text_graph (text_of original) code).edges
-      → AreSafeOn power foreign (text_graph (text_of original) code) l owner (weights_of power (text_of original) code (sites_of original foreign code l owner found)) n least found e (slice_get code.edges e)
+      → AreSafeOn power foreign (text_graph (text_of original) code) l owner (weights_of power (text_of original) code
+      (sites_of original foreign code l owner found)) n least found e (slice_get code.edges e)

@@ -1,4 +1,4 @@
--- What stands of each counter on the edges, by the numbers of edges; and how many edges turn and leave a loop.
+-- Scaffold: what stands of each counter on the edges, by the numbers of edges; and how many edges turn and leave a loop.
 use Rattle.std.specs.Prelude.{◌≡◌, ℕ, zero, suc, ◌+◌, ◌*◌, ◌<◌, ◌≤◌, ◌==◌, ◌&&◌, ◌||◌, not, nat_eq, nat_le, nat_lt, Bool, true, false, List, [], ◌∷◌, length, slice_index, slice_index_or, Option, Some, None, if◌then◌else◌}
 use Rattle.std.specs.List.{sum_by}
 use Rattle.cost_theory.specs.Graph.{Graph, Loops, is_back, leaves, only, sum_below}
@@ -38,7 +38,8 @@ of_loop f (Some k) e = f k e
 
 -- Whether an edge has at most one count of a counter, where it turns the counter's loop, and at most one exit or reset, where it leaves the loop.
 abbrev pub fits_on : FlowGraph → LoopView → ScannedSites → (owner : Option ℕ) → (c e : ℕ) → Bool
-fits_on v t s owner c e = nat_le (counts_at s c e) (of_loop (turn_of (graph v) (loops v t)) owner e) && nat_le (clears_at s c e) (of_loop (exit_of (graph v) (loops v t)) owner e)
+fits_on v t s owner c e = nat_le (counts_at s c e) (of_loop (turn_of (graph v) (loops v t)) owner e) && nat_le (clears_at s c e)
+    (of_loop (exit_of (graph v) (loops v t)) owner e)
 
 -- ---- loops
 
@@ -71,8 +72,10 @@ named k c (f ∷ fs) o = named k c fs (named_by k c f o)
 -- by counter, a loop of which one of the first n edges is a back edge and counts it
 pub record AreNamed (v : FlowGraph) (t : LoopView) (s : ScannedSites) (n : ℕ) (owners : List (Option ℕ)) : Type 0 where
   pub size : length owners ≡ 511
-  pub some : (c k : ℕ) → owner_by owners c ≡ Some k → (k < length t.headers) × ((e : ℕ) × (e < n) × (turn_of (graph v) (loops v t) k e ≡ 1) × (0 < counts_at s c e))
-  pub none : (c k e : ℕ) → owner_by owners c ≡ None → k < length t.headers → e < n → turn_of (graph v) (loops v t) k e ≡ 1 → counts_at s c e ≡ 0
+  pub some : (c k : ℕ) → owner_by owners c ≡ Some k → (k < length t.headers) ×
+      ((e : ℕ) × (e < n) × (turn_of (graph v) (loops v t) k e ≡ 1) × (0 < counts_at s c e))
+  pub none : (c k e : ℕ) → owner_by owners c ≡ None → k < length t.headers → e < n → turn_of (graph v) (loops v t) k e ≡ 1 →
+      counts_at s c e ≡ 0
 
 -- ---- tallies
 
@@ -103,19 +106,23 @@ tally_of v t s owner c zero = no_tally
 tally_of v t s owner c (suc n) = taken c (fits_on v t s owner c n) (on_edge s n) (tally_of v t s owner c n)
 
 abbrev pub AreTallies : FlowGraph → LoopView → ScannedSites → List (Option ℕ) → ℕ → List Tally → Type 0
-AreTallies v t s owners n tallies = (length tallies ≡ 511) × ((c : ℕ) → slice_index_or tallies c no_tally ≡ tally_of v t s (owner_by owners c) c n)
+AreTallies v t s owners n tallies = (length tallies ≡ 511) × ((c : ℕ) → slice_index_or tallies c no_tally ≡ tally_of v t s
+    (owner_by owners c) c n)
 
 -- one more fragment is taken
 abbrev pub AreTakenOne : FlowGraph → LoopView → ScannedSites → List (Option ℕ) → (e : ℕ) → ForeignFragment → (old new : List Tally) → Type 0
-AreTakenOne v t s owners e f old new = (c : ℕ) → slice_index_or new c no_tally ≡ taken_one c (fits_on v t s (owner_by owners c) c e) f (slice_index_or old c no_tally)
+AreTakenOne v t s owners e f old new = (c : ℕ) → slice_index_or new c no_tally ≡ taken_one c (fits_on v t s (owner_by owners c) c e) f
+    (slice_index_or old c no_tally)
 
 -- one more edge is taken
 abbrev pub AreTallied : FlowGraph → LoopView → ScannedSites → List (Option ℕ) → (e : ℕ) → (old new : List Tally) → Type 0
-AreTallied v t s owners e old new = (length new ≡ 511) × ((c : ℕ) → slice_index_or new c no_tally ≡ taken c (fits_on v t s (owner_by owners c) c e) (on_edge s e) (slice_index_or old c no_tally))
+AreTallied v t s owners e old new = (length new ≡ 511) × ((c : ℕ) → slice_index_or new c no_tally ≡ taken c
+    (fits_on v t s (owner_by owners c) c e) (on_edge s e) (slice_index_or old c no_tally))
 
 -- tallies of some edges, each of which has at most 64 fragments
 abbrev pub AreSmallTallies : ℕ → List Tally → Type 0
-AreSmallTallies n tallies = (c : ℕ) → ((slice_index_or tallies c no_tally).counts ≤ 64 * n) × ((slice_index_or tallies c no_tally).clears ≤ 64 * n)
+AreSmallTallies n tallies = (c : ℕ) → ((slice_index_or tallies c no_tally).counts ≤ 64 * n) ×
+    ((slice_index_or tallies c no_tally).clears ≤ 64 * n)
 
 -- ---- whether a counter counts its loop
 
@@ -129,7 +136,8 @@ is_bad_tally turns exits u owner = nat_lt 0 (u.counts + u.clears) && not (is_tal
 
 -- the first counter of which that is so, if there is one
 abbrev pub IsFirstBad : (turns exits : List ℕ) → List Tally → List (Option ℕ) → Option ℕ → Type 0
-IsFirstBad turns exits tallies owners None = (c : ℕ) → c < 511 → is_bad_tally turns exits (slice_index_or tallies c no_tally) (owner_by owners c) ≡ false
+IsFirstBad turns exits tallies owners None = (c : ℕ) → c < 511 → is_bad_tally turns exits (slice_index_or tallies c no_tally)
+    (owner_by owners c) ≡ false
 IsFirstBad turns exits tallies owners (Some b) =
     (b < 511) × (is_bad_tally turns exits (slice_index_or tallies b no_tally) (owner_by owners b) ≡ true)
     × ((c : ℕ) → c < b → is_bad_tally turns exits (slice_index_or tallies c no_tally) (owner_by owners c) ≡ false)

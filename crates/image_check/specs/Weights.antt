@@ -1,4 +1,4 @@
--- What the edges of an original cost with the stubs of an image of other make, by the lists of what is found.
+-- Scaffold: what the edges of an original cost with the stubs of an image of other make, by the lists of what is found.
 use Rattle.std.specs.Prelude.{◌≡◌, ℕ, List, []}
 use Rattle.scale_base.specs.declared.edges.EdgeKind.{EdgeKind}
 use Rattle.scale_base.specs.declared.edges.EdgeKind.TheVariants.{Taken, Untaken, Jump, Next, CallNext, End}
@@ -43,14 +43,17 @@ stub_jumps End = 1
 
 -- so much an edge takes more with the stubs of the fragments that are found
 abbrev pub IsExtraAt : Costs → FlowGraph → ScannedSites → (e extra : ℕ) → Type 0
-IsExtraAt costs v s e extra = (original foreign : Image) (t : LoopView) (owner : Owner) (found : Found) → IsFoundIn original foreign v t found s
+IsExtraAt costs v s e extra = (original foreign : Image) (t : LoopView) (owner : Owner) (found : Found) →
+    IsFoundIn original foreign v t found s
     → extra ≡ extra_site_weights (text_of original) v.code (cycles_of costs) (sites_of original foreign v.code (loops v t) owner found) e
 
 -- by edge, what it takes more, and what it costs with that
 abbrev pub AreExtraWeights : Costs → FlowGraph → ScannedSites → List ℕ → Type 0
-AreExtraWeights costs v s w = (original foreign : Image) (t : LoopView) (owner : Owner) (found : Found) → IsFoundIn original foreign v t found s
+AreExtraWeights costs v s w = (original foreign : Image) (t : LoopView) (owner : Owner) (found : Found) →
+    IsFoundIn original foreign v t found s
     → by_edge w ≡ extra_site_weights (text_of original) v.code (cycles_of costs) (sites_of original foreign v.code (loops v t) owner found)
 
 abbrev pub AreStoredWeights : Costs → FlowGraph → ScannedSites → List ℕ → Type 0
-AreStoredWeights costs v s w = (original foreign : Image) (t : LoopView) (owner : Owner) (found : Found) → IsFoundIn original foreign v t found s
+AreStoredWeights costs v s w = (original foreign : Image) (t : LoopView) (owner : Owner) (found : Found) →
+    IsFoundIn original foreign v t found s
     → by_edge w ≡ stored_site_weights (text_of original) v.code (cycles_of costs) (sites_of original foreign v.code (loops v t) owner found)

@@ -16,18 +16,18 @@ ghost use Rattle.image_check.specs.Checks.{IsOriginal, IsScannedBy, IsReceived, 
 use crate::levels::first_bad_level;
 use crate::owners::{OwnerList, owners_of};
 use crate::weights::{extra_weights, stored_weights};
-use answer_parts::{check_unscaled, time_at};
+use answer_parts::time_at;
 use code_graph::build_graph;
 use elf_image::ImageView;
 use elf_view::{read_image, refusal_number};
 use flow_graph::{CodeGraph, Weights};
 use foreign_scan::{ForeignSites, Scanned, scan};
 use least_cycles::least;
-use loop_file::{LoopNotes, read_loops};
+use loop_file::LoopNotes;
 use loop_forest::LoopTree;
 use loop_tree::build_loops;
-use machine_file::read_machine;
 use power_model::Power;
+use program_sources::Sources;
 use scale_base::{Checked, Keyed, NoMemory, Stop, Verdict, Why};
 use std::alloc::Global;
 use worst_cycles::{WorstNumbers, worst};
@@ -75,7 +75,8 @@ fn stub_cycles(
 ) -> Result<u64, NoMemory>
     requires original { IsOriginal original.now }
     requires costs { (found : Found) × (costs : CostsWithStubs) × (n : Numbers) × AreShortCosts original.now received.now costs found n }
-    ensures { IfOk result (λ cycles. (found : Found) → IsReceived original.now received.now found → AreExtraCycles original.now received.now found cycles) }
+    ensures { IfOk result (λ cycles. (found : Found) → IsReceived original.now received.now found →
+        AreExtraCycles original.now received.now found cycles) }
 {
     let power = &original.power;
     let weights = extra_weights(alloc, &original.graph, &received.sites, &power.costs)?;
@@ -95,22 +96,14 @@ fn check_levels(
     start: u8,
 ) -> Result<Verdict, NoMemory>
     requires original { IsOriginal original.now }
-    requires costs { (found : Found) × (n : Numbers) × AreShortCosts original.now received.now costs.now found n × MeetsDeadline original.now received.now n start }
-    ensures { IfOk result (IsImageVerdict original.now.power original.now.view received.now.view original.now.notes original.now.graph original.now.tree) }
+    requires costs { (found : Found) × (n : Numbers) × AreShortCosts original.now received.now costs.now found n ×
+        MeetsDeadline original.now received.now n start }
+    ensures { IfOk result (IsImageVerdict original.now.power original.now.view received.now.view original.now.notes original.now.graph
+        original.now.tree) }
 {
     let power = &original.power;
     let least = least(alloc, &original.graph, &original.tree, &costs.weights)?;
-    let bad = first_bad_level(
-        alloc,
-        power,
-        &received.view,
-        &original.graph,
-        &original.tree,
-        &received.sites,
-        &received.owners,
-        &costs.worst,
-        &least,
-    )?;
+    let bad = first_bad_level(alloc, original, received, &costs.worst, &least)?;
     let worst = costs.worst.total();
     match bad {
         Some((at, from)) => Ok(Verdict::No(Why::Level(at, from))),
@@ -133,7 +126,8 @@ fn check_start(
 ) -> Result<Verdict, NoMemory>
     requires original { IsOriginal original.now }
     requires costs { (found : Found) × (n : Numbers) × AreShortCosts original.now received.now costs.now found n }
-    ensures { IfOk result (IsImageVerdict original.now.power original.now.view received.now.view original.now.notes original.now.graph original.now.tree) }
+    ensures { IfOk result (IsImageVerdict original.now.power original.now.view received.now.view original.now.notes original.now.graph
+        original.now.tree) }
 {
     let power = &original.power;
     let level = starting_level(power, received.view.keyed());
@@ -158,7 +152,8 @@ fn check_worst(
 ) -> Result<Verdict, NoMemory>
     requires original { IsOriginal original.now }
     requires received { (found : Found) × IsReceived original.now received.now found }
-    ensures { IfOk result (IsImageVerdict original.now.power original.now.view received.now.view original.now.notes original.now.graph original.now.tree) }
+    ensures { IfOk result (IsImageVerdict original.now.power original.now.view received.now.view original.now.notes original.now.graph
+        original.now.tree) }
 {
     let power = &original.power;
     let weights = stored_weights(alloc, &original.graph, &received.sites, &power.costs)?;
@@ -181,7 +176,8 @@ fn check_counters<'a>(
 ) -> Result<Verdict, NoMemory>
     requires original { IsOriginal original.now }
     requires scanned { (found : Found) × IsScannedBy original.now view found sites }
-    ensures { IfOk result (IsImageVerdict original.now.power original.now.view view.entry original.now.notes original.now.graph original.now.tree) }
+    ensures { IfOk result (IsImageVerdict original.now.power original.now.view view.entry original.now.notes original.now.graph
+        original.now.tree) }
 {
     match owners_of(alloc, &original.graph, &original.tree, &sites)? {
         Ok(owners) => {
@@ -203,7 +199,8 @@ fn check_image<'a>(
     view: ImageView<'a>,
 ) -> Result<Verdict, NoMemory>
     requires original { IsOriginal original.now }
-    ensures { IfOk result (IsImageVerdict original.now.power original.now.view view.entry original.now.notes original.now.graph original.now.tree) }
+    ensures { IfOk result (IsImageVerdict original.now.power original.now.view view.entry original.now.notes original.now.graph
+        original.now.tree) }
 {
     match scan(
         alloc,
@@ -220,7 +217,8 @@ fn check_image<'a>(
 /// The verdict of the bytes of a file, which may be no image.
 fn check_file(alloc: Global, original: &Original<'_>, foreign: &[u8]) -> Result<Verdict, NoMemory>
     requires original { IsOriginal original.now }
-    ensures { IfOk result (IsFileVerdict original.now.power original.now.view (image_of foreign.now) original.now.notes original.now.graph original.now.tree) }
+    ensures { IfOk result (IsFileVerdict original.now.power original.now.view (image_of foreign.now) original.now.notes original.now.graph
+        original.now.tree) }
 {
     match read_image(alloc, foreign) {
         Ok(view) => check_image(alloc, original, view),
@@ -253,23 +251,6 @@ fn check_program<'a>(
     Ok(check_file(alloc, &original, foreign)?)
 }
 
-/// The verdict of four files, or the first refusal.
-fn check_files(
-    alloc: Global,
-    image: &[u8],
-    foreign: &[u8],
-    machine: &[u8],
-    loops: &[u8],
-) -> Result<Verdict, Stop>
-    ensures { AnswersBy (λ v. v) result (IsChecked image.now foreign.now machine.now loops.now) }
-{
-    let power = read_machine(alloc, machine)?;
-    let view = read_image(alloc, image)?;
-    check_unscaled(view.keyed())?;
-    let notes = read_loops(alloc, loops, &view)?;
-    check_program(alloc, power, view, notes, foreign)
-}
-
 /// Whether an image of other make is a safe rewriting of the original `image`: Yes with its numbers exactly where none of the causes of `Why` holds, and else No with
 /// the first of them that holds. Or the first refusal of the other files: of the machine file, of the original, of its keyed segment, of the loop file, of the reached
 /// code, and of its loops.
@@ -292,5 +273,6 @@ pub fn check(
     // An image that passes keeps the promise, with the printed number of cycles.
     ensures safe { IfOk result (IsSafeVerdict image.now foreign.now machine.now loops.now) }
 {
-    check_files(alloc, image, foreign, machine, loops)
+    let sources = Sources::read(alloc, image, machine, loops)?;
+    check_program(alloc, sources.power, sources.view, sources.notes, foreign)
 }

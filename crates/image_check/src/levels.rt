@@ -10,12 +10,12 @@ ghost use Rattle.foreign_scan.specs.Scanned.{Found};
 ghost use Rattle.image_check.specs.Known.{owner_by, HasKnown, AreKnown, IsLevelsAnswer};
 ghost use Rattle.image_check.specs.Levels.{IsTailOf, IsKnown, LeadsOn, IsFirstOn, IsToldOn, IsEdgeLevel, is_taken_edge, IsSortLevel, IsBothLevel, IsNodeLevel, IsFirstLevel};
 
+use crate::checking::{Original, Received};
 use crate::entries::{table_level, word_level};
 use crate::last_rows::{LastRows, read_rows};
 use crate::owners::OwnerList;
 use crate::told::{ExitTold, Told};
 use crate::weights::fragments_cycles;
-use elf_image::ImageView;
 use flow_graph::CodeGraph;
 use foreign_scan::{ForeignFragment, ForeignSites};
 use least_cycles::LeastNumbers;
@@ -272,26 +272,25 @@ fn first_level(known: &Known<'_>) -> Option<(u32, u8)>
 /// of its keyed segment, while it looks. Err only for want of memory.
 pub fn first_bad_level(
     alloc: Global,
-    power: &Power,
-    foreign: &ImageView<'_>,
-    graph: &CodeGraph,
-    tree: &LoopTree,
-    sites: &ForeignSites,
-    owners: &OwnerList,
+    original: &Original<'_>,
+    received: &Received<'_>,
     worst: &WorstNumbers,
     least: &LeastNumbers,
 ) -> Result<Option<(u32, u8)>, NoMemory>
-    requires { HasKnown foreign.now graph.now tree.now sites.now owners.now worst.now least.now }
-    ensures { (original : Image) (found : Found) (w : ℕ → ℕ) (n : Numbers) (charged : Charged) → AreKnown original foreign.now graph.now tree.now sites.now owners.now worst.now least.now found w n charged → IfOk result (λ answer. IsLevelsAnswer power.now foreign.now graph.now (loops graph.now tree.now) (owner_by owners.now) w n charged found answer) }
+    requires { let o = original.now in let r = received.now in HasKnown r.view o.graph o.tree r.sites r.owners worst.now least.now }
+    ensures { let o = original.now in let r = received.now in
+        (image : Image) (found : Found) (w : ℕ → ℕ) (n : Numbers) (charged : Charged) →
+        AreKnown image r.view o.graph o.tree r.sites r.owners worst.now least.now found w n charged →
+        IfOk result (λ answer. IsLevelsAnswer o.power r.view o.graph (loops o.graph o.tree) (owner_by r.owners) w n charged found answer) }
 {
-    let rows = read_rows(alloc, foreign)?;
+    let rows = read_rows(alloc, &received.view)?;
     Ok(first_level(&Known {
-        power,
+        power: &original.power,
         rows: &rows,
-        graph,
-        tree,
-        sites,
-        owners,
+        graph: &original.graph,
+        tree: &original.tree,
+        sites: &received.sites,
+        owners: &received.owners,
         worst,
         least,
     }))

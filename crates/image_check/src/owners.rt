@@ -77,7 +77,8 @@ pub fn owners_of(
     sites: &ForeignSites,
 ) -> Result<Result<OwnerList, u16>, NoMemory>
     requires { HasFound graph.now tree.now sites.now }
-    ensures { (original foreign : Image) (found : Found) → IsFoundIn original foreign graph.now tree.now found sites.now → IfOk result (λ answer. IsOwnersAnswer (graph_seen graph.now) graph.now.code (loops graph.now tree.now) found answer) }
+    ensures { (original foreign : Image) (found : Found) → IsFoundIn original foreign graph.now tree.now found sites.now →
+        IfOk result (λ answer. IsOwnersAnswer (graph_seen graph.now) graph.now.code (loops graph.now tree.now) found answer) }
 {
     let owners = named_loops(alloc, graph, tree, sites)?;
     let turns = loop_turns(alloc, graph, tree, sites)?;

@@ -306,7 +306,8 @@ fn set_tally(tallies: &mut Vec<Tally>, fragment: &ForeignFragment, counter: u16,
     requires counts { (slice_index_or tallies.old.items counter uses.no_tally).counts < 2 ^ 32 }
     requires clears { (slice_index_or tallies.old.items counter uses.no_tally).clears < 2 ^ 32 }
     requires used { uses.counter_used fragment.now ≡ Some counter }
-    ensures { tallies.new.items ≡ slice_set tallies.old.items counter (uses.taken_one counter fits fragment.now (slice_index_or tallies.old.items counter uses.no_tally)) }
+    ensures { tallies.new.items ≡ slice_set tallies.old.items counter (uses.taken_one counter fits fragment.now
+        (slice_index_or tallies.old.items counter uses.no_tally)) }
 {
     let number = usize::from(counter);
     let tally = tallies[number];
@@ -377,7 +378,8 @@ pub fn tallies_of(
 ) -> Result<Vec<Tally>, NoMemory>
     requires found { HasFound graph.now tree.now sites.now }
     requires named { uses.AreNamed graph.now tree.now sites.now (length graph.now.code.edges) owners.now }
-    ensures tallies { IfOk result (λ tallies. uses.AreTallies graph.now tree.now sites.now owners.now (length graph.now.code.edges) tallies.items) }
+    ensures tallies { IfOk result (λ tallies. uses.AreTallies graph.now tree.now sites.now owners.now (length graph.now.code.edges)
+        tallies.items) }
     ensures small { IfOk result (λ tallies. uses.AreSmallTallies 262144 tallies.items) }
 {
     let none = Tally {

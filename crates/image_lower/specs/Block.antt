@@ -18,7 +18,8 @@ use Rattle.image_lower.specs.Trees.{whole_tree, tree_depth, fits}
 
 -- the register of a `jalr x0,0(rs)` with another register than x0 and x1
 abbrev pub jump_register : Option Instr → Option ℕ
-jump_register (Some (instr.Jalr rd rs offset)) = if (rd == 0) && int_eq offset (pos 0) && not ((rs == 0) || (rs == 1)) then Some rs else None
+jump_register (Some (instr.Jalr rd rs offset)) = if (rd == 0) && int_eq offset (pos 0) && not ((rs == 0) || (rs == 1)) then Some rs else
+    None
 jump_register i = None
 
 -- that of the word of the text at an address

@@ -1,4 +1,4 @@
--- A list of the addresses that other ways lead to.
+-- Scaffold: a list of the addresses that other ways lead to.
 use Rattle.std.specs.Prelude.{◌≡◌, ℕ, ◌==◌, ◌||◌, List}
 use Rattle.std.specs.List.{list_any}
 use Rattle.code_text.specs.Text.{Text, is_target}

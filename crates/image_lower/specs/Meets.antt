@@ -30,7 +30,8 @@ module _ (image : Image) (notes : List JumpNote) (base : ℕ) where
   -- noted jump holds one of its targets, and no step goes into the block.
   pub record KeepsToLists (levels : ℕ) (input : List ℕ) (n : ℕ) : Type 0 where
     pub pairs : All (λ x. is_some (far_jump image notes x.next) ≡ true → x.pc + 4 ≡ x.next) (run_of image levels input n).steps
-    pub targets : (m : ℕ) → m < n → (run_of image levels input m).standing ≡ GoesOn → All (HoldsTarget (run_of image levels input m).state) notes
+    pub targets : (m : ℕ) → m < n → (run_of image levels input m).standing ≡ GoesOn →
+        All (HoldsTarget (run_of image levels input m).state) notes
     pub outside : All (λ x. in_block base (block_len image notes) x.next ≡ false) (run_of image levels input n).steps
 
 -- ---- the two runs
@@ -53,7 +54,8 @@ abbrev pub IsSoFar : Image → Image → List JumpNote → ℕ → Run → Run �
 IsSoFar image lowered notes base raw low GoesOn = (low.standing ≡ GoesOn) × AreSameStates image lowered raw.state low.state
 IsSoFar image lowered notes base raw low (HasExited status) = (low.standing ≡ HasExited status) × (low.state.output ≡ raw.state.output)
 IsSoFar image lowered notes base raw low (HasTrapped trap) =
-    is_noted_jump notes raw.state.pc ≡ false → in_block base (block_len image notes) raw.state.pc ≡ false → (low.standing ≡ HasTrapped trap) × (low.state.output ≡ raw.state.output)
+    is_noted_jump notes raw.state.pc ≡ false → in_block base (block_len image notes) raw.state.pc ≡ false →
+    (low.standing ≡ HasTrapped trap) × (low.state.output ≡ raw.state.output)
 
 -- what a tree of a depth costs at most
 abbrev pub tree_cycles : (Class → ℕ) → ℕ → ℕ
@@ -66,7 +68,8 @@ jumps_taken notes xs = count_by (λ x. is_noted_jump notes x.pc) xs
 -- the lowered run, at a number of its steps
 pub record FollowsLowered (image lowered : Image) (notes : List JumpNote) (base : ℕ) (raw low : Run) : Type 0 where
   pub standing : IsSoFar image lowered notes base raw low raw.standing
-  pub cycles : (costs : Class → ℕ) → stepped_cycles costs low.steps ≤ stepped_cycles costs raw.steps + jumps_taken notes raw.steps * tree_cycles costs (greatest_depth notes)
+  pub cycles : (costs : Class → ℕ) → stepped_cycles costs low.steps ≤ stepped_cycles costs raw.steps + jumps_taken notes raw.steps *
+      tree_cycles costs (greatest_depth notes)
 
 -- ---- the law
 
@@ -86,5 +89,6 @@ pub record IsLoweredTo (image : Image) (notes : List JumpNote) (base : ℕ) (low
 -- The lowered image follows each run of the raw one that keeps to the lists, at some number of its own steps.
 abbrev pub LoweredRunsFollow : Type 0
 LoweredRunsFollow =
-    (image lowered : Image) (notes : List JumpNote) (base levels : ℕ) (input : List ℕ) (n : ℕ) → IsLoweredTo image notes base lowered → KeepsToLists image notes base levels input n →
+    (image lowered : Image) (notes : List JumpNote) (base levels : ℕ) (input : List ℕ) (n : ℕ) → IsLoweredTo image notes base lowered →
+    KeepsToLists image notes base levels input n →
     (m : ℕ) × FollowsLowered image lowered notes base (run_of image levels input n) (run_of lowered levels input m)

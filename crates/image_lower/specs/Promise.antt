@@ -29,4 +29,5 @@ pub record IsLoweredSafely (image jumps stored : List ℕ) (counts : Lowered) : 
 
 -- Two answers that may be given for the same files are the same.
 abbrev pub LoweredAnswersAgree : Type 0
-LoweredAnswersAgree = (image jumps : List ℕ) (one other : Result (List ℕ × Lowered) Refusal) → IsLowered image jumps one → IsLowered image jumps other → one ≡ other
+LoweredAnswersAgree = (image jumps : List ℕ) (one other : Result (List ℕ × Lowered) Refusal) → IsLowered image jumps one →
+    IsLowered image jumps other → one ≡ other

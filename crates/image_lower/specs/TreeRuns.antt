@@ -1,4 +1,4 @@
--- What a tree does as steps of the machine: it leads to the target that the register holds, with the registers as they were.
+-- Scaffold: what a tree does as steps of the machine: it leads to the target that the register holds, with the registers as they were.
 use Rattle.std.specs.Prelude.{◌≡◌, ℕ, ◌+◌, ◌*◌, ◌%◌, ◌^◌, ◌<◌, ◌≤◌, true, List, [], ◌∷◌, length, All}
 use Rattle.std.specs.List.{Contains}
 use Rattle.scale_base.specs.declared.instruction.Instr.{Instr}
@@ -42,4 +42,5 @@ pub record FindsTarget (env : Setting) (s : State) (target depth : ℕ) : Type 0
 
 -- A tree leads to the target that its register holds, and costs no more than a tree of its depth.
 abbrev pub TreesFindTargets : Type 0
-TreesFindTargets = (env : Setting) (s : State) (rs target : ℕ) (targets : List ℕ) → IsAtTree env s rs target targets → FindsTarget env s target (tree_depth 32 targets)
+TreesFindTargets = (env : Setting) (s : State) (rs target : ℕ) (targets : List ℕ) → IsAtTree env s rs target targets →
+    FindsTarget env s target (tree_depth 32 targets)

@@ -150,7 +150,8 @@ pub fn least_bad(view: &ImageView<'_>, notes: &[JumpNote], entered: &[u32]) -> O
 /// How many of the notes come before an address: as far as none stands behind it.
 fn place_of(sorted: &[&JumpNote], at: u32) -> usize
     ensures within { result ≤ length sorted.now }
-    ensures place { (note : JumpNote) → note.at ≡ at → block.insert_note (map (λ n. n.now) sorted.now) note ≡ block.put_note (map (λ n. n.now) sorted.now) result note }
+    ensures place { (note : JumpNote) → note.at ≡ at → block.insert_note (map (λ n. n.now) sorted.now) note ≡ block.put_note
+        (map (λ n. n.now) sorted.now) result note }
 {
     for (k, note) in sorted.iter().enumerate() {
         if at < note.at {

@@ -87,7 +87,8 @@ pub fn trees_code(
     requires notes { All (λ n. IsJumpNote n.now) sorted.now }
     ensures code { IfOk result (λ code. code.items ≡ block.trees_code view.now base (map (λ n. n.now) sorted.now)) }
     ensures short { IfOk result (λ code. length code.items ≤ 653312) }
-    ensures fields { IfOk result (λ code. block.tree_out_of_reach view.now base (map (λ n. n.now) sorted.now) ≡ None → All FieldsInRange code.items) }
+    ensures fields { IfOk result (λ code. block.tree_out_of_reach view.now base (map (λ n. n.now) sorted.now) ≡ None →
+        All FieldsInRange code.items) }
 {
     let mut code = Vec::new(alloc);
     let mut at = u64::from(base);

@@ -135,7 +135,8 @@ pub fn far_jump(
     requires entered { AreWaysIn (texts.text_of view.now) notes.now entered.now }
     requires rising { Rise entered.now }
     requires follows { follows ≡ texts.follows (texts.text_of view.now) at }
-    requires words { at % 4 ≡ 0 → follows ≡ true → (is_word_address view.now at ≡ true) × (is_word_address view.now (at - 4) ≡ true) × (4 ≤ at) }
+    requires words { at % 4 ≡ 0 → follows ≡ true → (is_word_address view.now at ≡ true) × (is_word_address view.now (at - 4) ≡ true) ×
+        (4 ≤ at) }
     ensures jump { result ≡ far.far_jump view.now notes.now at }
     ensures fits { IfSome result FieldsInRange }
 {
@@ -205,7 +206,8 @@ fn add_far_patches(
     requires range { IsWalked view.now range }
     requires entered { AreWaysIn (texts.text_of view.now) notes.now entered.now }
     requires rising { Rise entered.now }
-    ensures { IfOk result (λ _. patches.new.items ≡ patches.old.items ++ filter_map (far.far_patch view.now notes.now) (word_addresses range)) }
+    ensures { IfOk result (λ _. patches.new.items ≡ patches.old.items ++ filter_map (far.far_patch view.now notes.now)
+        (word_addresses range)) }
 {
     for k in 0..range.to.saturating_sub(range.from) / 4 {
         let patch = far_patch(view, notes, entered, range, range.from + 4 * k);

@@ -95,7 +95,9 @@ fn tree_file(
     requires few { length sorted.now ≤ 1024 }
     requires notes { All (λ n. IsJumpNote n.now) sorted.now }
     requires reach { block.tree_out_of_reach view.now base (map (λ n. n.now) sorted.now) ≡ None }
-    ensures { IfOk result (λ out. out.items ≡ added_file view.now.file (near.now ++ block.tree_patches view.now base (map (λ n. n.now) sorted.now)) base (flat_map (λ i. little 4 (word_of i)) (block.trees_code view.now base (map (λ n. n.now) sorted.now)))) }
+    ensures { IfOk result (λ out. out.items ≡ added_file view.now.file (near.now ++ block.tree_patches view.now base
+        (map (λ n. n.now) sorted.now)) base (flat_map (λ i. little 4 (word_of i))
+        (block.trees_code view.now base (map (λ n. n.now) sorted.now)))) }
 {
     let code = trees_code(alloc, view, base, sorted)?;
     let block = code_bytes(alloc, &code)?;
@@ -174,7 +176,8 @@ fn lower_notes(
     requires file { length view.now.file ≤ 4194304 }
     requires image { image_of view.now.file ≡ Ok view.now }
     requires notes { AreJumpNotes notes.now }
-    ensures { AnswersBy (λ p. (p.0.items, p.1)) result (lowered.AfterPart (lowered.no_bad_jump view.now notes.now) (λ _. lowered.IsLoweredImage view.now notes.now)) }
+    ensures { AnswersBy (λ p. (p.0.items, p.1)) result (lowered.AfterPart (lowered.no_bad_jump view.now notes.now)
+        (λ _. lowered.IsLoweredImage view.now notes.now)) }
 {
     let entered = entered_by(alloc, view, notes)?;
     if let Some(at) = least_bad(view, notes, &entered) {

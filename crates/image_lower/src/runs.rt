@@ -22,7 +22,8 @@ pub fn lowered_runs_follow()
 /// What `lower` stores is safe: it is the file in which each pair and each noted jump is lowered, the numbers are those of that file, and
 /// its runs follow those of the original that keep to the lists.
 pub fn lowered_images_are_safe()
-    ensures { (image jumps stored : List ℕ) (counts : Lowered) → length image ≤ 4194304 → All (λ b. b < 2 ^ 8) image → IsLowered image jumps (Ok ((stored, counts))) → IsLoweredSafely image jumps stored counts }
+    ensures { (image jumps stored : List ℕ) (counts : Lowered) → length image ≤ 4194304 → All (λ b. b < 2 ^ 8) image →
+        IsLowered image jumps (Ok ((stored, counts))) → IsLoweredSafely image jumps stored counts }
 {}
 
 /// Two answers that `lower` may give for the same files are the same.

@@ -1,4 +1,4 @@
--- What a plain image is an image of.
+-- Scaffold: what a plain image is an image of.
 use Rattle.std.specs.Prelude.{◌≡◌, ◌<◌, ℕ, ◌+◌, ◌*◌, List, [], ◌∷◌, length, slice_index, Ok, Some, None}
 use Rattle.scale_base.specs.Image.{image_of, contents, text_word}
 use Rattle.image_maker.specs.PlainImage.{START}

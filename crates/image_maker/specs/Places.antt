@@ -1,4 +1,4 @@
--- The tables and lists of an assembler, while it goes over the lines.
+-- Scaffold: the tables and lists of an assembler, while it goes over the lines.
 use Rattle.std.specs.Prelude.{◌≡◌, ◌<◌, ℕ, List, MatchOption, take, length, min, Option, Some, None, true, count_by, option_map, pos, ◌-ℤ◌, slice_index}
 use Rattle.std.specs.Ordering.{nat_cmp}
 use Rattle.std.specs.BTreeMap.{BTreeMap, get}

@@ -55,7 +55,8 @@ pub fn make(alloc: Global, number: u64, size: u32) -> Result<Made, NoMemory>
     ensures machine { IfOk result (λ it. it.machine.items ≡ texts.machine_text size) }
     ensures loops { IfOk result (λ it. it.loops.items ≡ texts.loops_text (making.headers number size)) }
     ensures input { IfOk result (λ it. it.input.items ≡ texts.drawn_bytes (making.state_at number size) 256) }
-    ensures small { IfOk result (λ it. (length it.image.items ≤ 4194304) × (length it.machine.items ≤ 1048576) × (length it.loops.items ≤ 1048576)) }
+    ensures small { IfOk result (λ it. (length it.image.items ≤ 4194304) × (length it.machine.items ≤ 1048576) ×
+        (length it.loops.items ≤ 1048576)) }
 {
     let mut program = make_program(alloc, number, size)?;
     let image = make_image(alloc, &program.lines)?;

@@ -215,7 +215,8 @@ impl Program {
     fn add_block(&mut self, k: u32) -> Result<(), NoMemory>
         requires { length self.old.lines.items ≤ 131072 }
         ensures lines { OnOk result (self.new.lines.items ≡ self.old.lines.items ++ making.block k self.old.draws.state) }
-        ensures headers { OnOk result (self.new.headers.items ≡ self.old.headers.items ++ making.header_in (length self.old.lines.items) self.old.draws.state) }
+        ensures headers { OnOk result (self.new.headers.items ≡ self.old.headers.items ++ making.header_in (length self.old.lines.items)
+            self.old.draws.state) }
         ensures state { OnOk result (self.new.draws.state ≡ making.state_behind self.old.draws.state) }
     {
         let before = self.lines.len() as u32;

@@ -15,7 +15,8 @@ use Rattle.machine_file.specs.Machine.{read_machine}
 use Rattle.loop_file.specs.declared.notes.LoopNote.{LoopNote}
 use Rattle.loop_file.specs.Loops.{read_loops}
 use Rattle.speed_sim.specs.Simulated.{report_of, level_allowed}
-use Rattle.answer_parts.specs.Parts.{Then, unscaled}
+use Rattle.answer_parts.specs.Parts.{Then}
+use Rattle.program_sources.specs.Sources.{original_of}
 use Rattle.input_survey.specs.Agreeing.{SurveysAgree}
 use Rattle.input_survey.specs.Most.{IsMost}
 use Rattle.input_survey.specs.Surveyed.{IsLineOf, AreLines, IsSurvey, IsSurveyAnswer, IsSurveyed, totals_of}
@@ -92,9 +93,7 @@ then_same (Ok a) next same one other h h' = same a one other h h'
 pub surveyed_answers : SurveysAgree
 unfolding IsSurveyed
 surveyed_answers image scaled machine loops inputs =
-    then_same (read_machine machine) _ (λ power.
-    then_same (image_of image) _ (λ original.
-    then_same (unscaled original.keyed_segment) _ (λ _.
+    then_same (original_of image machine) _ (λ original.
     then_same (image_of scaled) _ (λ other.
-    then_same (level_allowed (length power.levels) other.keyed_segment) _ (λ _.
-    then_same (read_loops original loops) _ (λ notes. same_answers power original other notes inputs))))))
+    then_same (level_allowed (length original.power.levels) other.keyed_segment) _ (λ _.
+    then_same (read_loops original.view loops) _ (λ notes. same_answers original.power original.view other notes inputs))))

@@ -8,15 +8,12 @@ use Rattle.machine_file.specs.Machine.{read_machine}
 use Rattle.loop_file.specs.declared.notes.LoopNote.{LoopNote}
 use Rattle.loop_file.specs.Loops.{read_loops}
 use Rattle.speed_sim.specs.Simulated.{level_allowed}
-use Rattle.answer_parts.specs.Parts.{Then, unscaled}
+use Rattle.program_sources.specs.Sources.{original_of}
+use Rattle.program_sources.proofs.Laws.{original_parts, then_ok}
 use Rattle.input_survey.specs.Surveyed.{IsSurvey, IsSurveyAnswer, IsSurveyed}
 
 abbrev given : {A : Type 0} → A → Result A Refusal
 given x = Ok x
-
-then_ok : {A B : Type 0} (part : Result A Refusal) (next : A → Result B Refusal → Type 0) (y : B) → Then part next (Ok y) → (x : A) × (part ≡ Ok x) × next x (Ok y)
-then_ok (Ok x) next y h = (x, refl, h)
-then_ok (Err refusal) next y h = let bad : ⊥ = cc in absurd bad
 
 pub record WentThrough (image scaled machine loops : List ℕ) (inputs : List (List ℕ)) (survey : Survey) : Type 0 where
   pub power : PowerModel
@@ -32,24 +29,23 @@ pub record WentThrough (image scaled machine loops : List ℕ) (inputs : List (L
 pub went_through : (image scaled machine loops : List ℕ) (inputs : List (List ℕ)) (survey : Survey) → IsSurveyed image scaled machine loops inputs (Ok survey) → WentThrough image scaled machine loops inputs survey
 unfolding IsSurveyed
 went_through image scaled machine loops inputs survey h =
-    let a = then_ok (read_machine machine) _ survey h in
-    let b = then_ok (image_of image) _ survey a.2 in
-    let c = then_ok (unscaled b.0.keyed_segment) _ survey b.2 in
-    let d = then_ok (image_of scaled) _ survey c.2 in
-    let e = then_ok (level_allowed (length a.0.levels) d.0.keyed_segment) _ survey d.2 in
-    let f = then_ok (read_loops b.0 loops) _ survey e.2 in
-    let answer : IsSurveyAnswer a.0 b.0 d.0 f.0 inputs (Ok survey) = f.2 in
+    let a = then_ok (original_of image machine) _ survey h in
+    let o = original_parts image machine a.0 a.1 in
+    let d = then_ok (image_of scaled) _ survey a.2 in
+    let e = then_ok (level_allowed (length a.0.power.levels) d.0.keyed_segment) _ survey d.2 in
+    let f = then_ok (read_loops a.0.view loops) _ survey e.2 in
+    let answer : IsSurveyAnswer a.0.power a.0.view d.0 f.0 inputs (Ok survey) = f.2 in
     let same : answer.survey ≡ survey = some_same answer.survey survey answer.answer_is in
     record {
-      power = a.0;
-      original = b.0;
+      power = a.0.power;
+      original = a.0.view;
       other = d.0;
       notes = f.0;
-      power_is = a.1;
-      original_is = b.1;
+      power_is = o.power_is;
+      original_is = o.view_is;
       other_is = d.1;
       notes_are = f.1;
-      surveyed = subst (λ s. IsSurvey a.0 b.0 d.0 f.0 inputs s) same answer.is;
+      surveyed = subst (λ s. IsSurvey a.0.power a.0.view d.0 f.0 inputs s) same answer.is;
     }
   where
     some_same : (s t : Survey) → given t ≡ given s → s ≡ t

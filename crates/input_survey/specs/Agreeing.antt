@@ -1,4 +1,4 @@
--- Two surveys that may be given for the same files are the same. As a statement for the contract of a function.
+-- Scaffold: two surveys that may be given for the same files are the same. As a statement for the contract of a function.
 use Rattle.std.specs.Prelude.{◌≡◌, ℕ, List, Result}
 use Rattle.scale_base.specs.declared.refusal.Refusal.{Refusal}
 use Rattle.power_model.specs.Survey.{Survey}

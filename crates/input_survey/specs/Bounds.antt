@@ -33,20 +33,25 @@ BreaksNoBound (BrokeDepth at) = Unit {0}
 -- with each bound replaced by its most each run breaks no bound, unless a most is above the greatest bound of a loop file
 abbrev pub IsEnough : PowerModel → Image → List LoopNote → List (List ℕ) → List ℕ → Type 0
 IsEnough power image notes inputs most =
-    ((k : ℕ) → k < length notes → slice_index most k ≤ 1000000000) → (input : List ℕ) → Contains inputs input → BreaksNoBound (kept_by power image (bounded_notes notes most) input)
+    ((k : ℕ) → k < length notes → slice_index most k ≤ 1000000000) → (input : List ℕ) → Contains inputs input →
+    BreaksNoBound (kept_by power image (bounded_notes notes most) input)
 
 -- with any positive most less by one some run breaks that bound
 abbrev pub IsEachNeeded : PowerModel → Image → List LoopNote → List (List ℕ) → List ℕ → Type 0
 IsEachNeeded power image notes inputs most =
     (k : ℕ) → k < length notes → 0 < slice_index most k →
-    (input : List ℕ) × Contains inputs input × (kept_by power image (bounded_notes notes (slice_set most k (slice_index most k - 1))) input ≡ BrokeBound (k + 1) (slice_index most k))
+    (input : List ℕ) × Contains inputs input × (kept_by power image (bounded_notes notes (slice_set most k (slice_index most k - 1))) input
+    ≡ BrokeBound (k + 1) (slice_index most k))
 
 -- the same over the bytes of the files
 abbrev pub OfFiles : (PowerModel → Image → List LoopNote → Type 0) → (image machine loops : List ℕ) → Type 0
-OfFiles Says image machine loops = (power : PowerModel) (original : Image) (notes : List LoopNote) → read_machine machine ≡ Ok power → image_of image ≡ Ok original → read_loops original loops ≡ Ok notes → Says power original notes
+OfFiles Says image machine loops = (power : PowerModel) (original : Image) (notes : List LoopNote) → read_machine machine ≡ Ok power →
+    image_of image ≡ Ok original → read_loops original loops ≡ Ok notes → Says power original notes
 
 abbrev pub MostIsEnough : (image machine loops : List ℕ) → List (List ℕ) → List ℕ → Type 0
-MostIsEnough image machine loops inputs most = OfFiles (λ power original notes. IsEnough power original notes inputs most) image machine loops
+MostIsEnough image machine loops inputs most = OfFiles (λ power original notes. IsEnough power original notes inputs most) image machine
+    loops
 
 abbrev pub MostIsNeeded : (image machine loops : List ℕ) → List (List ℕ) → List ℕ → Type 0
-MostIsNeeded image machine loops inputs most = OfFiles (λ power original notes. IsEachNeeded power original notes inputs most) image machine loops
+MostIsNeeded image machine loops inputs most = OfFiles (λ power original notes. IsEachNeeded power original notes inputs most) image
+    machine loops

@@ -17,9 +17,11 @@ pub record KeepsLine (power : PowerModel) (line : Surveyed) : Type 0 where
 
 -- where the original run is kept and exits, and the scaled run isn't out of steps
 abbrev pub IsPromised : PowerModel → Surveyed → Type 0
-IsPromised power line = (status : ℕ) → line.kept ≡ kinds.Kept → line.end ≡ Exited status → line.scaled_end ≢ OutOfSteps → KeepsLine power line
+IsPromised power line = (status : ℕ) → line.kept ≡ kinds.Kept → line.end ≡ Exited status → line.scaled_end ≢ OutOfSteps →
+    KeepsLine power line
 
 -- each line of a survey with what `rewrite` stores
 abbrev pub LinesArePromised : (image scaled machine loops : List ℕ) → List Surveyed → Type 0
 LinesArePromised image scaled machine loops lines =
-    (summary : Summary) → IsRewritten image machine loops (Ok ((scaled, summary))) → (power : PowerModel) → read_machine machine ≡ Ok power → All (IsPromised power) lines
+    (summary : Summary) → IsRewritten image machine loops (Ok ((scaled, summary))) → (power : PowerModel) →
+    read_machine machine ≡ Ok power → All (IsPromised power) lines

@@ -13,5 +13,6 @@ pub record SaysOfRuns (image scaled machine loops : List ℕ) (inputs : List (Li
 
 -- Each survey of files that a program loads says so. As a statement for the contract of a function.
 abbrev pub SurveysSayOfRuns : Type 0
-SurveysSayOfRuns = (image scaled machine loops : List ℕ) (inputs : List (List ℕ)) (survey : Survey) → length image ≤ 4194304 → length machine ≤ 1048576 → length loops ≤ 1048576 →
+SurveysSayOfRuns = (image scaled machine loops : List ℕ) (inputs : List (List ℕ)) (survey : Survey) → length image ≤ 4194304 →
+    length machine ≤ 1048576 → length loops ≤ 1048576 →
     IsSurveyed image scaled machine loops inputs (Ok survey) → SaysOfRuns image scaled machine loops inputs survey

@@ -9,11 +9,11 @@ use Rattle.power_model.specs.declared.survey.Totals.{Totals}
 use Rattle.power_model.specs.Numbers.{PowerModel}
 use Rattle.power_model.specs.Report.{Report}
 use Rattle.power_model.specs.Survey.{Surveyed, Survey}
-use Rattle.machine_file.specs.Machine.{read_machine}
 use Rattle.loop_file.specs.declared.notes.LoopNote.{LoopNote}
 use Rattle.loop_file.specs.Loops.{read_loops}
 use Rattle.speed_sim.specs.Simulated.{report_of, level_allowed}
-use Rattle.answer_parts.specs.Parts.{Then, unscaled}
+use Rattle.answer_parts.specs.Parts.{Then}
+use Rattle.program_sources.specs.Sources.{original_of}
 use Rattle.input_survey.specs.Most.{IsMost}
 
 -- ---- a line for each input
@@ -30,14 +30,16 @@ pub record IsLineOf (original scaled : Report) (line : Surveyed) : Type 0 where
 
 -- the runs of both images on an input, each with at most as many steps as the machine file says, the original's by the notes of its loops
 abbrev pub IsLine : PowerModel → Image → Image → List LoopNote → List ℕ → Surveyed → Type 0
-IsLine power original scaled notes input line = IsLineOf (report_of power original input (Some notes)) (report_of power scaled input None) line
+IsLine power original scaled notes input line = IsLineOf (report_of power original input (Some notes)) (report_of power scaled input None)
+    line
 
 -- a line for each input, in their order
 abbrev pub AreLines : PowerModel → Image → Image → List LoopNote → List (List ℕ) → List Surveyed → Type 0
 AreLines power original scaled notes [] [] = Unit {0}
 AreLines power original scaled notes [] (line ∷ lines) = ⊥
 AreLines power original scaled notes (input ∷ inputs) [] = ⊥
-AreLines power original scaled notes (input ∷ inputs) (line ∷ lines) = IsLine power original scaled notes input line × AreLines power original scaled notes inputs lines
+AreLines power original scaled notes (input ∷ inputs) (line ∷ lines) = IsLine power original scaled notes input line ×
+    AreLines power original scaled notes inputs lines
 
 -- ---- what the lines come to
 
@@ -82,10 +84,8 @@ pub record IsSurveyAnswer (power : PowerModel) (original scaled : Image) (notes 
 -- segment, of the loop file.
 unfoldable pub IsSurveyed : (image scaled machine loops : List ℕ) → List (List ℕ) → Result Survey Refusal → Type 0
 IsSurveyed image scaled machine loops inputs answer =
-    Then (read_machine machine) (λ power.
-    Then (image_of image) (λ original.
-    Then (unscaled original.keyed_segment) (λ _.
+    Then (original_of image machine) (λ original.
     Then (image_of scaled) (λ other.
-    Then (level_allowed (length power.levels) other.keyed_segment) (λ _.
-    Then (read_loops original loops) (λ notes.
-    IsSurveyAnswer power original other notes inputs)))))) answer
+    Then (level_allowed (length original.power.levels) other.keyed_segment) (λ _.
+    Then (read_loops original.view loops) (λ notes.
+    IsSurveyAnswer original.power original.view other notes inputs)))) answer

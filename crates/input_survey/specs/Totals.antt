@@ -1,4 +1,4 @@
--- Totals that grow line by line.
+-- Scaffold: totals that grow line by line.
 use Rattle.std.specs.Prelude.{◌+◌, ◌*◌, ◌^◌, ◌≤◌, not, cond}
 use Rattle.power_model.specs.declared.survey.Totals.{Totals}
 use Rattle.power_model.specs.Numbers.{PowerModel}

@@ -52,7 +52,8 @@ pub fn line_of<P: Progress>(
     requires unscaled { images.now.original.now.keyed_segment ≡ None }
     requires start { images.now.start ≡ starting_level (length images.now.power.now.levels) images.now.scaled.now.keyed_segment }
     requires is_level { images.now.start < length images.now.power.now.levels }
-    ensures line { IfOk result (λ line. IsLine images.now.power.now images.now.original.now images.now.scaled.now counter.old.notes input.now (line_view line)) }
+    ensures line { IfOk result (λ line. IsLine images.now.power.now images.now.original.now images.now.scaled.now counter.old.notes
+        input.now (line_view line)) }
     ensures held { IfOk result (λ line. line.held < 2 ^ 100) }
     ensures counted { let power = images.now.power.now in OnOk result (counter.new ≡ counted_run images.now.original.now (length power.levels) input.now counter.old.notes counter.old.most power.steps) }
 {

@@ -11,12 +11,11 @@ ghost use Rattle.input_survey.specs.Promised.{LinesArePromised};
 
 use crate::lines::{Images, line_of};
 use crate::totals::totals_of;
-use answer_parts::check_unscaled;
 use elf_view::read_image;
 use keep_monitor::LoopCounter;
 use loop_file::{LoopNotes, read_loops};
-use machine_file::read_machine;
 use power_model::SurveyReport;
+use program_sources::OriginalImage;
 use run_progress::{Part, Progress, Silent};
 use scale_base::{NoMemory, Stop};
 use speed_sim::start_of;
@@ -34,7 +33,8 @@ fn survey_of<P: Progress>(
     requires start { images.now.start ≡ starting_level (length images.now.power.now.levels) images.now.scaled.now.keyed_segment }
     requires is_level { images.now.start < length images.now.power.now.levels }
     requires few { length inputs.now ≤ 64 }
-    ensures { IfOk result (λ survey. IsSurvey images.now.power.now images.now.original.now images.now.scaled.now notes (map (λ input. input.items) inputs.now) (survey_view survey)) }
+    ensures { IfOk result (λ survey. IsSurvey images.now.power.now images.now.original.now images.now.scaled.now notes
+        (map (λ input. input.items) inputs.now) (survey_view survey)) }
 {
     let mut counter = LoopCounter::new(alloc, notes)?;
     let mut lines = Vec::new(alloc);
@@ -68,17 +68,16 @@ fn survey_files<P: Progress>(
     progress: &mut P,
 ) -> Result<SurveyReport, Stop>
     requires { length inputs.now ≤ 64 }
-    ensures { AnswersBy survey_view result (IsSurveyed files.now.image.now files.now.scaled.now files.now.machine.now files.now.loops.now (map (λ input. input.items) inputs.now)) }
+    ensures { AnswersBy survey_view result (IsSurveyed files.now.image.now files.now.scaled.now files.now.machine.now files.now.loops.now
+        (map (λ input. input.items) inputs.now)) }
 {
-    let power = read_machine(alloc, files.machine)?;
-    let original = read_image(alloc, files.image)?;
-    check_unscaled(original.keyed())?;
+    let original = OriginalImage::read(alloc, files.image, files.machine)?;
     let other = read_image(alloc, files.scaled)?;
-    let start = start_of(power.levels.count(), other.keyed())?;
-    let notes = read_loops(alloc, files.loops, &original)?;
+    let start = start_of(original.power.levels.count(), other.keyed())?;
+    let notes = read_loops(alloc, files.loops, &original.view)?;
     let images = Images {
-        power: &power,
-        original: &original,
+        power: &original.power,
+        original: &original.view,
         scaled: &other,
         start,
     };
@@ -99,10 +98,14 @@ pub fn survey_with_progress<P: Progress>(
     requires some { 1 ≤ length inputs.now }
     requires few { length inputs.now ≤ 64 }
     requires inputs { All (λ input. length input.items ≤ 1048576) inputs.now }
-    ensures survey { AnswersBy survey_view result (IsSurveyed files.now.image.now files.now.scaled.now files.now.machine.now files.now.loops.now (map (λ input. input.items) inputs.now)) }
-    ensures enough { IfOk result (λ survey. MostIsEnough files.now.image.now files.now.machine.now files.now.loops.now (map (λ input. input.items) inputs.now) survey.most.items) }
-    ensures needed { IfOk result (λ survey. MostIsNeeded files.now.image.now files.now.machine.now files.now.loops.now (map (λ input. input.items) inputs.now) survey.most.items) }
-    ensures promised { IfOk result (λ survey. LinesArePromised files.now.image.now files.now.scaled.now files.now.machine.now files.now.loops.now (map line_view survey.lines.items)) }
+    ensures survey { AnswersBy survey_view result (IsSurveyed files.now.image.now files.now.scaled.now files.now.machine.now
+        files.now.loops.now (map (λ input. input.items) inputs.now)) }
+    ensures enough { IfOk result (λ survey. MostIsEnough files.now.image.now files.now.machine.now files.now.loops.now
+        (map (λ input. input.items) inputs.now) survey.most.items) }
+    ensures needed { IfOk result (λ survey. MostIsNeeded files.now.image.now files.now.machine.now files.now.loops.now
+        (map (λ input. input.items) inputs.now) survey.most.items) }
+    ensures promised { IfOk result (λ survey. LinesArePromised files.now.image.now files.now.scaled.now files.now.machine.now
+        files.now.loops.now (map line_view survey.lines.items)) }
 {
     survey_files(alloc, files, inputs, progress)
 }
@@ -128,10 +131,14 @@ pub fn survey(
     requires some { 1 ≤ length inputs.now }
     requires few { length inputs.now ≤ 64 }
     requires inputs { All (λ input. length input.items ≤ 1048576) inputs.now }
-    ensures survey { AnswersBy survey_view result (IsSurveyed image.now scaled.now machine.now loops.now (map (λ input. input.items) inputs.now)) }
-    ensures enough { IfOk result (λ survey. MostIsEnough image.now machine.now loops.now (map (λ input. input.items) inputs.now) survey.most.items) }
-    ensures needed { IfOk result (λ survey. MostIsNeeded image.now machine.now loops.now (map (λ input. input.items) inputs.now) survey.most.items) }
-    ensures promised { IfOk result (λ survey. LinesArePromised image.now scaled.now machine.now loops.now (map line_view survey.lines.items)) }
+    ensures survey { AnswersBy survey_view result (IsSurveyed image.now scaled.now machine.now loops.now
+        (map (λ input. input.items) inputs.now)) }
+    ensures enough { IfOk result (λ survey. MostIsEnough image.now machine.now loops.now (map (λ input. input.items) inputs.now)
+        survey.most.items) }
+    ensures needed { IfOk result (λ survey. MostIsNeeded image.now machine.now loops.now (map (λ input. input.items) inputs.now)
+        survey.most.items) }
+    ensures promised { IfOk result (λ survey. LinesArePromised image.now scaled.now machine.now loops.now
+        (map line_view survey.lines.items)) }
 {
     let files = SurveyFiles {
         image,

@@ -1,4 +1,4 @@
--- What is claimed of registers and tables of targets, by the addresses of nodes, and what the code says of it, edge by edge.
+-- Scaffold: what is claimed of registers and tables of targets, by the addresses of nodes, and what the code says of it, edge by edge.
 use Rattle.std.specs.Prelude.{◌≡◌, ℕ, ◌+◌, ◌*◌, ◌<◌, true, List, length, slice_get, Option, Some, None}
 use Rattle.scale_base.specs.declared.instruction.Instr.{Instr}
 use Rattle.scale_base.specs.Image.{Image}
@@ -49,7 +49,8 @@ IsReadThere c k i x = IsReadOver (values_in c.claim.now) (known_in c) i (address
 -- ---- of an edge
 
 pub record IsEdgeRead (t : Text) (g : Graph) (v : Values) (known : ℕ → Option TableRead) (e : ℕ) : Type 0 where
-  pub step : (b : ℕ) (x : TableRead) → g.target e ≡ Some b → g.callee e ≡ None → known b ≡ Some x → v.live (g.source e) ≡ true → (i : Instr) → instr_at t (g.source e) ≡ Some i → IsReadOver v known i (g.source e) x
+  pub step : (b : ℕ) (x : TableRead) → g.target e ≡ Some b → g.callee e ≡ None → known b ≡ Some x → v.live (g.source e) ≡ true →
+      (i : Instr) → instr_at t (g.source e) ≡ Some i → IsReadOver v known i (g.source e) x
   pub call : (f : ℕ) → g.callee e ≡ Some f → known (g.entry f) ≡ None
   pub back : (f b : ℕ) → g.callee e ≡ Some f → g.target e ≡ Some b → known b ≡ None
 
@@ -59,12 +60,15 @@ IsEdgeSo c e = IsEdgeRead (text_in c.claim.now) (graph c.claim.now.graph.now) (v
 
 -- what is known behind edge e, where that is no call
 abbrev pub IsStepRead : ReadClaim → ℕ → Type 0
-IsStepRead c e = (b : ℕ) (x : TableRead) → (graph c.claim.now.graph.now).target e ≡ Some b → known_in c b ≡ Some x → (values_in c.claim.now).live ((graph c.claim.now.graph.now).source e) ≡ true →
-    (i : Instr) → instr_at (text_in c.claim.now) ((graph c.claim.now.graph.now).source e) ≡ Some i → IsReadOver (values_in c.claim.now) (known_in c) i ((graph c.claim.now.graph.now).source e) x
+IsStepRead c e = (b : ℕ) (x : TableRead) → (graph c.claim.now.graph.now).target e ≡ Some b → known_in c b ≡ Some x →
+    (values_in c.claim.now).live ((graph c.claim.now.graph.now).source e) ≡ true →
+    (i : Instr) → instr_at (text_in c.claim.now) ((graph c.claim.now.graph.now).source e) ≡ Some i →
+    IsReadOver (values_in c.claim.now) (known_in c) i ((graph c.claim.now.graph.now).source e) x
 
 -- by nodes: what is known at node n is so behind node k
 abbrev pub IsKnownOver : ReadClaim → ℕ → ℕ → Type 0
-IsKnownOver c k n = (x : TableRead) → known_in c (address c.claim.now n) ≡ Some x → (values_in c.claim.now).live (address c.claim.now k) ≡ true →
+IsKnownOver c k n = (x : TableRead) → known_in c (address c.claim.now n) ≡ Some x →
+    (values_in c.claim.now).live (address c.claim.now k) ≡ true →
     (i : Instr) → instr_at (text_in c.claim.now) (address c.claim.now k) ≡ Some i → IsReadThere c k i x
 
 -- nothing is known at node n

@@ -1,4 +1,4 @@
--- How an instruction may leave a word of a table in a register.
+-- Scaffold: how an instruction may leave a word of a table in a register.
 use Rattle.std.specs.Prelude.{◌≡◌, ℕ, ℤ}
 use Rattle.scale_base.specs.Arith.{unsigned}
 use Rattle.scale_base.specs.declared.instruction.LoadOp.TheVariants.{Lw}

@@ -22,7 +22,8 @@ use stack_tables::{instruction, is_live};
 fn is_so_behind(claim: &ReadClaim<'_>, k: usize, x: TableRead) -> bool
     requires claim { IsReadClaim claim.now }
     requires node { k < length claim.now.claim.now.graph.now.code.nodes }
-    ensures { result ≡ true → (i : Instr) → text.instr_at (text_in claim.now.claim.now) (address claim.now.claim.now k) ≡ Some i → IsReadThere claim.now k i x }
+    ensures { result ≡ true → (i : Instr) → text.instr_at (text_in claim.now.claim.now) (address claim.now.claim.now k) ≡ Some i →
+        IsReadThere claim.now k i x }
 {
     match instruction(claim.claim, k) {
         Some(i) => is_read_over(claim, i, k, x),
@@ -145,7 +146,8 @@ fn are_of_registers(reads: &[Option<TableRead>]) -> bool
 // Whether nothing is known where a run begins.
 fn is_start_clear(claim: &ReadClaim<'_>) -> bool
     requires { IsReadClaim claim.now }
-    ensures { result ≡ true → known_beside claim.now.claim.now.graph.now.code.nodes claim.now.reads.now claim.now.claim.now.view.now.entry ≡ None }
+    ensures { result ≡ true → known_beside claim.now.claim.now.graph.now.code.nodes claim.now.reads.now claim.now.claim.now.view.now.entry
+        ≡ None }
 {
     let table = claim.claim;
     match table.graph.find(table.view.entry()) {
@@ -157,7 +159,9 @@ fn is_start_clear(claim: &ReadClaim<'_>) -> bool
 /// Whether the code shows what is claimed: then it is so along each run whose returns go back to their calls.
 pub fn is_read_so(claim: &ReadClaim<'_>) -> bool
     requires { IsReadClaim claim.now }
-    ensures { result ≡ true → AreReads (text_of claim.now.claim.now.view.now) (text_graph (text_of claim.now.claim.now.view.now) claim.now.claim.now.graph.now.code) (claim_values claim.now.claim.now) (known_beside claim.now.claim.now.graph.now.code.nodes claim.now.reads.now) }
+    ensures { result ≡ true → AreReads (text_of claim.now.claim.now.view.now)
+        (text_graph (text_of claim.now.claim.now.view.now) claim.now.claim.now.graph.now.code) (claim_values claim.now.claim.now)
+        (known_beside claim.now.claim.now.graph.now.code.nodes claim.now.reads.now) }
 {
     if !are_of_registers(claim.reads) {
         return false;

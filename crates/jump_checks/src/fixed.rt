@@ -42,7 +42,8 @@ fn is_read_fixed(
 /// Whether no store changes the words of the tables of a claim.
 pub fn are_words_fixed(alloc: Global, claim: &ReadClaim<'_>) -> Result<bool, NoMemory>
     requires { IsReadClaim claim.now }
-    ensures { IfOk result (λ fixed. fixed ≡ true → AreUnwritten (layout_of claim.now.claim.now.view.now) (known_beside claim.now.claim.now.graph.now.code.nodes claim.now.reads.now)) }
+    ensures { IfOk result (λ fixed. fixed ≡ true → AreUnwritten (layout_of claim.now.claim.now.view.now)
+        (known_beside claim.now.claim.now.graph.now.code.nodes claim.now.reads.now)) }
 {
     for k in 0..claim.reads.len() {
         let fixed = is_read_fixed(alloc, claim.claim.view, entry(claim.reads, k))?;

@@ -47,7 +47,8 @@ fn is_within(claim: &ReadClaim<'_>, k: usize, table: Table, rs1: u8, more: u32) 
     requires claim { IsReadClaim claim.now }
     requires node { k < length claim.now.claim.now.graph.now.code.nodes }
     requires table { IsPlainTable table }
-    ensures { result ≡ true → values.Covers (Some (addresses_in table)) (values.sum_with (values.held ((values_in claim.now.claim.now).at (address claim.now.claim.now k)) rs1) more) }
+    ensures { result ≡ true → values.Covers (Some (addresses_in table)) (values.sum_with
+        (values.held ((values_in claim.now.claim.now).at (address claim.now.claim.now k)) rs1) more) }
 {
     let held = held_at(claim.claim, k, rs1);
     let address = sum_with(held, u64::from(more));

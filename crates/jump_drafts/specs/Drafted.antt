@@ -34,7 +34,8 @@ IsImageProved original bytes notes proof = (lowered : Image) → image_of bytes 
 
 -- the same of the bytes that `lower` stores by a file
 abbrev pub IsFileProved : Image → List ℕ → List JumpNote → JumpProof → Type 0
-IsFileProved original file notes proof = (stored : List ℕ) (counts : Lowered) → IsLowered original.file file (Ok ((stored, counts))) → IsImageProved original stored notes proof
+IsFileProved original file notes proof = (stored : List ℕ) (counts : Lowered) → IsLowered original.file file (Ok ((stored, counts))) →
+    IsImageProved original stored notes proof
 
 -- The draft of an image's jump file: its bytes are read as its notes; each of these is of a jump through a register of the text that is no return, whose
 -- targets are those of a table in bytes that no store can change; all others are there, too; `lower` takes the file; and what is said to be proved of the
@@ -54,4 +55,5 @@ IsImageDrafted original (Err refusal) = (keyed : Keyed) × (original.keyed_segme
 -- the draft, or the first refusal: of the file, or of its image
 abbrev pub AreJumpsDrafted : List ℕ → Result JumpDraft Refusal → Type 0
 AreJumpsDrafted image (Ok draft) = (original : Image) × (image_of image ≡ Ok original) × IsImageDrafted original (Ok draft)
-AreJumpsDrafted image (Err refusal) = (image_of image ≡ Err refusal) ⊎ ((original : Image) × (image_of image ≡ Ok original) × IsImageDrafted original (Err refusal))
+AreJumpsDrafted image (Err refusal) = (image_of image ≡ Err refusal) ⊎ ((original : Image) × (image_of image ≡ Ok original) ×
+    IsImageDrafted original (Err refusal))

@@ -32,4 +32,5 @@ pub record IsListed (image : Image) (note : JumpNote) (table : Table) : Type 0 w
 -- each note of a list, by the table of the same number
 pub record AreListed (image : Image) (notes : List JumpNote) (tables : List Table) : Type 0 where
   pub size : length tables ≡ length notes
-  pub each : (k : ℕ) (note : JumpNote) (table : Table) → slice_get notes k ≡ Some note → slice_get tables k ≡ Some table → IsListed image note table
+  pub each : (k : ℕ) (note : JumpNote) (table : Table) → slice_get notes k ≡ Some note → slice_get tables k ≡ Some table →
+      IsListed image note table

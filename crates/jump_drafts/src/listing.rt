@@ -93,7 +93,8 @@ fn push_if_left(
     at: u32,
 ) -> Result<(), NoMemory>
     requires { image_of view.now.file ≡ Ok view.now }
-    ensures { OnOk result (map (λ other. other.at) others.new.items ≡ map (λ other. other.at) others.old.items ++ filter (is_left view.now notes.now) (at ∷ [])) }
+    ensures { OnOk result (map (λ other. other.at) others.new.items ≡ map (λ other. other.at) others.old.items ++ filter
+        (is_left view.now notes.now) (at ∷ [])) }
 {
     if is_left(view, notes, at) {
         let reason = found.reason(at).unwrap_or(Reason::NotReached);
@@ -111,7 +112,8 @@ fn push_left(
     range: Range,
 ) -> Result<(), NoMemory>
     requires { image_of view.now.file ≡ Ok view.now }
-    ensures { OnOk result (map (λ other. other.at) others.new.items ≡ map (λ other. other.at) others.old.items ++ left_in view.now notes.now range) }
+    ensures { OnOk result (map (λ other. other.at) others.new.items ≡ map (λ other. other.at) others.old.items ++ left_in view.now
+        notes.now range) }
 {
     for k in 0..range.to.saturating_sub(range.from) / 4 {
         push_if_left(others, view, notes, found, range.from + 4 * k)?;

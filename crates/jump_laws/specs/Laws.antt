@@ -1,4 +1,4 @@
--- The laws of tables of targets, as statements for the contracts of functions.
+-- Scaffold: the laws of tables of targets, as statements for the contracts of functions.
 use Rattle.std.specs.Prelude.{◌≡◌, ℕ, ◌+◌, ◌*◌, ◌^◌, ◌<◌, false, All, List, Option, Some, None, Ok}
 use Rattle.scale_base.specs.Image.{Image, image_of, loaded_byte}
 use Rattle.scale_base.specs.Layout.{Layout, layout_of, may_write}
@@ -27,18 +27,23 @@ FixedWordsStay = (file : List ℕ) (image : Image) (at word : ℕ) → image_of 
 
 -- no word of the tables that are known may be written
 abbrev pub AreUnwritten : Layout → (ℕ → Option TableRead) → Type 0
-AreUnwritten layout known = (a : ℕ) (x : TableRead) → known a ≡ Some x → (k : ℕ) → k < x.table.count → IsUnwritten layout (x.table.at + x.table.step * k)
+AreUnwritten layout known = (a : ℕ) (x : TableRead) → known a ≡ Some x → (k : ℕ) → k < x.table.count →
+    IsUnwritten layout (x.table.at + x.table.step * k)
 
 -- As long as the returns of a run go back to their calls, the registers that are known to have words of tables have them, as these were at the start.
 abbrev pub TableWordsHold : Type 0
-TableWordsHold = (t : Text) (env : Setting) (s : State) (code : Code) (v : Values) (w : Stacks) (known : ℕ → Option TableRead) → IsStartOver t env s → IsReachedCode t code → IsStackInvariant t (text_graph t code) v w →
+TableWordsHold = (t : Text) (env : Setting) (s : State) (code : Code) (v : Values) (w : Stacks) (known : ℕ → Option TableRead) →
+    IsStartOver t env s → IsReachedCode t code → IsStackInvariant t (text_graph t code) v w →
     AreReads t (text_graph t code) v known → AreUnwritten env.layout known →
     env.layout.keyed ≡ None → AreTold v w s.pc (view_of w s.regs s.regs s.bytes) → AreBytes s.bytes → All (λ x. x < 256) env.input →
-    (n : ℕ) (rs : List ℕ) → returns_so (run env s n).steps ≡ Some rs → (run env s n).standing ≡ GoesOn → IsRead s.bytes (known (run env s n).state.pc) (run env s n).state.regs
+    (n : ℕ) (rs : List ℕ) → returns_so (run env s n).steps ≡ Some rs → (run env s n).standing ≡ GoesOn →
+    IsRead s.bytes (known (run env s n).state.pc) (run env s n).state.regs
 
 -- The same over an image, on each input, of the words that it loads.
 abbrev pub ImageWordsHold : Type 0
-ImageWordsHold = (file : List ℕ) (image : Image) (levels : ℕ) (input : List ℕ) (code : Code) (v : Values) (w : Stacks) (known : ℕ → Option TableRead) → image_of file ≡ Ok image →
-    All (λ x. x < 256) file → All (λ x. x < 256) input → IsStackAnalysed image code v w → AreReads (text_of image) (text_graph (text_of image) code) v known → AreUnwritten (layout_of image) known →
+ImageWordsHold = (file : List ℕ) (image : Image) (levels : ℕ) (input : List ℕ) (code : Code) (v : Values) (w : Stacks)
+    (known : ℕ → Option TableRead) → image_of file ≡ Ok image →
+    All (λ x. x < 256) file → All (λ x. x < 256) input → IsStackAnalysed image code v w →
+    AreReads (text_of image) (text_graph (text_of image) code) v known → AreUnwritten (layout_of image) known →
     (n : ℕ) (rs : List ℕ) → returns_so (run_of image levels input n).steps ≡ Some rs → (run_of image levels input n).standing ≡ GoesOn →
     IsRead (loaded_byte image) (known (run_of image levels input n).state.pc) (run_of image levels input n).state.regs

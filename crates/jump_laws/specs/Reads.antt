@@ -1,4 +1,4 @@
--- Registers that have a word of a table of targets: what is known of them at each address, and what the code has to say, edge by edge, so that it is so along
+-- Scaffold: registers that have a word of a table of targets: what is known of them at each address, and what the code has to say, edge by edge, so that it is so along
 -- each run. A switch reads the address of a case from a table (Aho, Lam, Sethi and Ullman, Compilers, section 6.8), and jumps there.
 use Rattle.std.specs.Prelude.{◌≡◌, ℕ, ℤ, ◌+◌, ◌-◌, ◌*◌, ◌%◌, ◌^◌, ◌<◌, true, List, Option, Some, None}
 use Rattle.scale_base.specs.declared.instruction.LoadOp.TheVariants.{Lw}
@@ -53,14 +53,18 @@ read_to register table = record { register = register; table = table }
 -- over an edge of the instruction at a, which is no call: the register is left, or it is loaded by an address of the table, or a number is added to it
 pub data IsReadOver (v : Values) (known : ℕ → Option TableRead) (i : Instr) (a : ℕ) (x : TableRead) : Type 0 where
   kept : known a ≡ Some x → keeps x.register i ≡ true → IsReadOver v known i a x
-  loaded : (rs1 : ℕ) (offset : ℤ) → i ≡ Load Lw x.register rs1 offset → IsPlainTable x.table → Covers (Some (addresses_in x.table)) (sum_with (held (v.at a) rs1) (unsigned offset)) → IsReadOver v known i a x
-  added : (rs1 rs2 : ℕ) (c : Arc) (table : Table) → i ≡ Reg Add x.register rs1 rs2 → known a ≡ Some (read_to rs1 table) → IsExactly v a rs2 c → x.table ≡ raised table c.low → IsReadOver v known i a x
-  added_to : (rs1 rs2 : ℕ) (c : Arc) (table : Table) → i ≡ Reg Add x.register rs1 rs2 → known a ≡ Some (read_to rs2 table) → IsExactly v a rs1 c → x.table ≡ raised table c.low → IsReadOver v known i a x
+  loaded : (rs1 : ℕ) (offset : ℤ) → i ≡ Load Lw x.register rs1 offset → IsPlainTable x.table →
+      Covers (Some (addresses_in x.table)) (sum_with (held (v.at a) rs1) (unsigned offset)) → IsReadOver v known i a x
+  added : (rs1 rs2 : ℕ) (c : Arc) (table : Table) → i ≡ Reg Add x.register rs1 rs2 → known a ≡ Some (read_to rs1 table) →
+      IsExactly v a rs2 c → x.table ≡ raised table c.low → IsReadOver v known i a x
+  added_to : (rs1 rs2 : ℕ) (c : Arc) (table : Table) → i ≡ Reg Add x.register rs1 rs2 → known a ≡ Some (read_to rs2 table) →
+      IsExactly v a rs1 c → x.table ≡ raised table c.low → IsReadOver v known i a x
 
 -- Each clause is about one edge of the graph, or about two of one call. Nothing is known where a function begins, behind a call, and where a run begins.
 pub record AreReads (t : Text) (g : Graph) (v : Values) (known : ℕ → Option TableRead) : Type 0 where
   pub registers : (a : ℕ) (x : TableRead) → known a ≡ Some x → IsRegister x.register
-  pub steps : (a b : ℕ) (i : Instr) (x : TableRead) → Steps g a b → v.live a ≡ true → instr_at t a ≡ Some i → known b ≡ Some x → IsReadOver v known i a x
+  pub steps : (a b : ℕ) (i : Instr) (x : TableRead) → Steps g a b → v.live a ≡ true → instr_at t a ≡ Some i → known b ≡ Some x →
+      IsReadOver v known i a x
   pub calls : (a b : ℕ) → Calls g a b → known b ≡ None
   pub back : (u to b : ℕ) → Calls g u to → Leads g u b → known b ≡ None
   pub start : known t.entry ≡ None

@@ -1,4 +1,4 @@
--- What the code of a lowered image shows of a noted jump.
+-- Scaffold: what the code of a lowered image shows of a noted jump.
 use Rattle.std.specs.Prelude.{◌≡◌, ℕ, Bool, true, List, slice_get, Some}
 use Rattle.scale_base.specs.Image.{Image}
 use Rattle.jump_lists.specs.declared.notes.JumpNote.{JumpNote}
@@ -17,4 +17,5 @@ pub record IsShownBy (original : Image) (c : ReadClaim) (note : JumpNote) : Type
 
 -- of each note that has a flag
 abbrev pub AreShownBy : Image → ReadClaim → List JumpNote → List Bool → Type 0
-AreShownBy original c notes flags = (k : ℕ) (note : JumpNote) → slice_get notes k ≡ Some note → slice_get flags k ≡ Some true → IsShownBy original c note
+AreShownBy original c notes flags = (k : ℕ) (note : JumpNote) → slice_get notes k ≡ Some note → slice_get flags k ≡ Some true →
+    IsShownBy original c note

@@ -1,4 +1,4 @@
--- Watching a run by the notes of its loops, and beside that how many back edges its loops take where their bounds are the greatest: the steps
+-- Scaffold: watching a run by the notes of its loops, and beside that how many back edges its loops take where their bounds are the greatest: the steps
 -- are watched by the relaxed notes too, and the most that a loop's count comes to is kept.
 use Rattle.std.specs.Prelude.{◌≡◌, ℕ, zero, suc, ◌==◌, nat_lt, max, List, [], length, map, slice_index, Option, Some, None, if◌then◌else◌}
 use Rattle.std.specs.List.{range_with_len}
@@ -40,7 +40,8 @@ raised_at w most x k = if x.next == (note_at w.notes k).header then max (slice_i
 -- the same of each loop, by the return addresses after the step
 abbrev pub raised_most : Watched → List ℕ → Stepped → Option (List ℕ) → List ℕ
 raised_most w most x None = most
-raised_most w most x (Some returns) = if nat_lt most_returns (length returns) then most else map (raised_at w most x) (range_with_len 0 (length w.notes))
+raised_most w most x (Some returns) = if nat_lt most_returns (length returns) then most else map (raised_at w most x)
+    (range_with_len 0 (length w.notes))
 
 -- whether the run is kept by other notes of the same loops, where these are the return addresses and the counts
 abbrev pub judged : List LoopNote → Kept → Watched → Stepped → Kept
@@ -76,7 +77,8 @@ count_end c (HasTrapped trap) end = c
 -- what counting over the first n steps from a state gives
 unfoldable pub counted_from : Setting → State → List LoopNote → List ℕ → ℕ → Counted
 counted_from env s notes most zero = counted_first notes most
-counted_from env s notes most (suc n) = count_end (counted_from env s notes most n) (run env s n).standing (step env (run env s n).state).end
+counted_from env s notes most (suc n) = count_end (counted_from env s notes most n) (run env s n).standing
+    (step env (run env s n).state).end
 
 -- the same for the run of an image on a machine of so many levels, with an input
 abbrev pub counted_run : Image → ℕ → List ℕ → List LoopNote → List ℕ → ℕ → Counted

@@ -1,4 +1,4 @@
--- The headers of loops in order.
+-- Scaffold: the headers of loops in order.
 use Rattle.std.specs.Prelude.{◌≡◌, ℕ, ◌<◌, ◌==◌, Bool, List, length, map, filter, slice_index_or}
 use Rattle.std.specs.List.{range_with_len}
 use Rattle.std.specs.List.Sorted.{IsNonDecreasingBy}
@@ -34,7 +34,8 @@ pub record AreRisingLoops (n : ℕ) (group : List Header) : Type 0 where
 pub record AreLoopsOf (notes : List LoopNote) (at : ℕ) (group : List Header) : Type 0 where
   pub loops : AreRisingLoops (length notes) group
   pub header : (j : ℕ) → j < length group → (note_at notes (sorted_header group j).number).header ≡ at
-  pub whole : (k : ℕ) → k < length notes → (note_at notes k).header ≡ at → (j : ℕ) × (j < length group) × ((sorted_header group j).number ≡ k)
+  pub whole : (k : ℕ) → k < length notes → (note_at notes k).header ≡ at → (j : ℕ) × (j < length group) ×
+      ((sorted_header group j).number ≡ k)
 
 -- the only loop of its header
 pub record IsLoneLoop (notes : List LoopNote) (at k : ℕ) : Type 0 where

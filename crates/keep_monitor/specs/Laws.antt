@@ -1,4 +1,4 @@
--- Watching the run of an image tells whether it is kept.
+-- Scaffold: watching the run of an image tells whether it is kept.
 use Rattle.std.specs.Prelude.{◌≡◌, ℕ, ◌↔◌, List}
 use Rattle.scale_base.specs.declared.endings.Kept.TheVariants as kinds
 use Rattle.scale_base.specs.Image.{Image}

@@ -1,4 +1,4 @@
--- Slots of addresses, and which of them have a header of a loop.
+-- Scaffold: slots of addresses, and which of them have a header of a loop.
 use Rattle.std.specs.Prelude.{◌≡◌, ℕ, ◌<◌, ◌/◌, ◌%◌, Bool, true, List, length, slice_index_or}
 use Rattle.loop_file.specs.declared.notes.LoopNote.{LoopNote}
 use Rattle.loop_file.specs.Kept.{note_at}

@@ -1,4 +1,4 @@
--- What the functions of a step say of lists, and what a monitor keeps.
+-- Scaffold: what the functions of a step say of lists, and what a monitor keeps.
 use Rattle.std.specs.Prelude.{◌≡◌, ℕ, ◌+◌, ◌<◌, ◌≤◌, ◌&&◌, not, nat_lt, false, Bool, List, [], ◌∷◌, length, slice_index, Option, Some, None, option_map, if◌then◌else◌}
 use Rattle.scale_base.specs.declared.endings.Kept.{Kept}
 use Rattle.scale_base.specs.declared.endings.Kept.TheVariants.{BrokeBound, BrokeReturn, BrokeDepth}
@@ -29,7 +29,8 @@ counts_after_step notes counts source next k = count_step (noted_loops notes) so
 
 -- the least loop whose count is above its bound then
 abbrev pub loop_over : List LoopNote → List ℕ → Option ℕ → ℕ → Option ℕ
-loop_over notes counts source next = find_below (length notes) (λ k. nat_lt (note_at notes k).bound (counts_after_step notes counts source next k))
+loop_over notes counts source next = find_below (length notes) (λ k. nat_lt (note_at notes k).bound
+    (counts_after_step notes counts source next k))
 
 -- whether a step leaves a loop's extent
 abbrev pub leaves_note : Move → LoopNote → ℕ → ℕ → Bool
@@ -54,7 +55,8 @@ lesser_loop (Some a) (Some b) = Some (if nat_lt a b then a else b)
 -- what a step breaks of the rules on loops. Loops are numbered from 1 there.
 abbrev pub broken_loop : List LoopNote → List ℕ → Option ℕ → Stepped → Option Kept
 broken_loop notes counts source x =
-    option_map (λ k. BrokeBound (k + 1) (counts_after_step notes counts source x.next k)) (loop_broken notes (counts_after_step notes counts source x.next) x)
+    option_map (λ k. BrokeBound (k + 1) (counts_after_step notes counts source x.next k))
+    (loop_broken notes (counts_after_step notes counts source x.next) x)
 
 -- those of the first n loops that have to turn before they are left, ascending
 pub record AreTurning (notes : List LoopNote) (n : ℕ) (numbers : List ℕ) : Type 0 where
@@ -73,7 +75,8 @@ count_after_at notes group counts source j =
     count_then (note_at notes (sorted_header group j).number) source (slice_index counts (sorted_header group j).number)
 
 abbrev pub is_over : List LoopNote → List Header → List ℕ → Option ℕ → ℕ → Bool
-is_over notes group counts source j = nat_lt (note_at notes (sorted_header group j).number).bound (count_after_at notes group counts source j)
+is_over notes group counts source j = nat_lt (note_at notes (sorted_header group j).number).bound
+    (count_after_at notes group counts source j)
 
 -- the counts are within the bounds of as many loops
 pub record AreCounts (notes : List LoopNote) (counts : List ℕ) : Type 0 where

@@ -87,8 +87,10 @@ fn raise_loops(
     requires most { length most.old ≡ length notes.now }
     requires loops { AreRisingLoops (length notes.now) group.now }
     ensures size { length most.new ≡ length most.old }
-    ensures each { (j : ℕ) → j < length group.now → slice_index most.new (sorted_header group.now j).number ≡ max (slice_index most.old (sorted_header group.now j).number) (count_after_at notes.now group.now counts.now source j) }
-    ensures others { (k : ℕ) → ((j : ℕ) → j < length group.now → (sorted_header group.now j).number ≢ k) → slice_index most.new k ≡ slice_index most.old k }
+    ensures each { (j : ℕ) → j < length group.now → slice_index most.new (sorted_header group.now j).number ≡ max
+        (slice_index most.old (sorted_header group.now j).number) (count_after_at notes.now group.now counts.now source j) }
+    ensures others { (k : ℕ) → ((j : ℕ) → j < length group.now → (sorted_header group.now j).number ≢ k) →
+        slice_index most.new k ≡ slice_index most.old k }
 {
     for header in group {
         most[header.number] = raised_to(notes, header.number, counts, source, most[header.number]);
@@ -109,7 +111,8 @@ fn raise(
     requires most { length most.old ≡ length notes.now }
     requires loops { AreLoopsOf notes.now step.now.next group.now }
     requires shallow { length returns.now ≤ most_returns }
-    ensures { most.new ≡ raised_most (record { notes = notes.now; returns = reverse returns.now; counts = counts.now; kept = kinds.Kept }) most.old step.now (returns_after (reverse returns.now) step.now) }
+    ensures { most.new ≡ raised_most (record { notes = notes.now; returns = reverse returns.now; counts = counts.now; kept = kinds.Kept })
+        most.old step.now (returns_after (reverse returns.now) step.now) }
 {
     if broken_return(step, returns).is_none() {
         raise_loops(notes, group, counts, source_of(step, returns), most);
@@ -130,7 +133,8 @@ fn judge_step(
     requires loops { AreLoopsOf notes.now step.now.next group.now }
     requires turning { AreTurning notes.now (length notes.now) turning.now }
     requires shallow { length returns.now ≤ most_returns }
-    ensures { result ≡ (watch_returns (record { notes = notes.now; returns = reverse returns.now; counts = counts.now; kept = kinds.Kept }) step.now (returns_after (reverse returns.now) step.now)).kept }
+    ensures { result ≡ (watch_returns (record { notes = notes.now; returns = reverse returns.now; counts = counts.now; kept = kinds.Kept })
+        step.now (returns_after (reverse returns.now) step.now)).kept }
 {
     let of_returns = broken_return(step, returns);
     let source = source_of(step, returns);
@@ -156,7 +160,13 @@ fn judge(
     requires loops { AreLoopsOf notes.now step.now.next group.now }
     requires turning { AreTurning notes.now (length notes.now) turning.now }
     requires shallow { length returns.now ≤ most_returns }
-    ensures { result ≡ judged notes.now kept (record { notes = notes.now; returns = reverse returns.now; counts = counts.now; kept = kinds.Kept }) step.now }
+    ensures { result ≡ judged notes.now kept (record {
+      notes = notes.now;
+      returns = reverse returns.now;
+      counts = counts.now;
+      kept =
+          kinds.Kept;
+    }) step.now }
 {
     match kept {
         Kept::Kept => judge_step(notes, group, turning, returns, counts, step),

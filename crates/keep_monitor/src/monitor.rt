@@ -66,7 +66,9 @@ fn watch_step(
     step: &Stepped,
 ) -> Kept
     requires { IsMonitor notes.now headers.now turning.now (vec_len returns.old) (vec_capacity returns.old) counts.old.items }
-    ensures watched { record { notes = notes.now; returns = reverse returns.new.items; counts = counts.new.items; kept = result } ≡ watch_returns (record { notes = notes.now; returns = reverse returns.old.items; counts = counts.old.items; kept = kinds.Kept }) step.now (returns_after (reverse returns.old.items) step.now) }
+    ensures watched { record { notes = notes.now; returns = reverse returns.new.items; counts = counts.new.items; kept = result } ≡
+        watch_returns (record { notes = notes.now; returns = reverse returns.old.items; counts = counts.old.items; kept = kinds.Kept })
+        step.now (returns_after (reverse returns.old.items) step.now) }
     ensures fits { IsMonitor notes.now headers.now turning.now (vec_len returns.new) (vec_capacity returns.new) counts.new.items }
 {
     let source = source_of(step, returns);
@@ -118,7 +120,9 @@ fn watch_turn(notes: &LoopNotes, number: usize, counts: &mut Vec<u32>, step: &St
     requires lone { IsLoneLoop notes.now step.now.next number }
     requires turning { AreTurning notes.now (length notes.now) [] }
     requires counts { AreCounts notes.now counts.old.items }
-    ensures watched { (returns : List ℕ) → length returns ≤ most_returns → record { notes = notes.now; returns = returns; counts = counts.new.items; kept = result } ≡ watch_returns (record { notes = notes.now; returns = returns; counts = counts.old.items; kept = kinds.Kept }) step.now (Some returns) }
+    ensures watched { (returns : List ℕ) → length returns ≤ most_returns → record
+        { notes = notes.now; returns = returns; counts = counts.new.items; kept = result } ≡ watch_returns
+        (record { notes = notes.now; returns = returns; counts = counts.old.items; kept = kinds.Kept }) step.now (Some returns) }
     ensures fits { AreCounts notes.now counts.new.items }
 {
     let note = notes.note(number);
@@ -143,7 +147,9 @@ pub fn watch_next(
     step: &Stepped,
 ) -> Kept
     requires { IsMonitor notes.now headers.now turning.now (vec_len returns.old) (vec_capacity returns.old) counts.old.items }
-    ensures watched { record { notes = notes.now; returns = reverse returns.new.items; counts = counts.new.items; kept = result } ≡ watch_returns (record { notes = notes.now; returns = reverse returns.old.items; counts = counts.old.items; kept = kinds.Kept }) step.now (returns_after (reverse returns.old.items) step.now) }
+    ensures watched { record { notes = notes.now; returns = reverse returns.new.items; counts = counts.new.items; kept = result } ≡
+        watch_returns (record { notes = notes.now; returns = reverse returns.old.items; counts = counts.old.items; kept = kinds.Kept })
+        step.now (returns_after (reverse returns.old.items) step.now) }
     ensures fits { IsMonitor notes.now headers.now turning.now (vec_len returns.new) (vec_capacity returns.new) counts.new.items }
 {
     match lone_loop(notes, headers, turning, step) {

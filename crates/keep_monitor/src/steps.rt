@@ -221,8 +221,10 @@ pub fn count_step(notes: &LoopNotes, group: &[Header], counts: &mut [u32], sourc
     requires counts { AreCounts notes.now counts.old }
     requires loops { AreRisingLoops (length notes.now) group.now }
     ensures size { length counts.new ≡ length counts.old }
-    ensures each { (j : ℕ) → j < length group.now → slice_index counts.new (sorted_header group.now j).number ≡ count_after_at notes.now group.now counts.old source j }
-    ensures others { (k : ℕ) → ((j : ℕ) → j < length group.now → (sorted_header group.now j).number ≢ k) → slice_index counts.new k ≡ slice_index counts.old k }
+    ensures each { (j : ℕ) → j < length group.now → slice_index counts.new (sorted_header group.now j).number ≡ count_after_at notes.now
+        group.now counts.old source j }
+    ensures others { (k : ℕ) → ((j : ℕ) → j < length group.now → (sorted_header group.now j).number ≢ k) →
+        slice_index counts.new k ≡ slice_index counts.old k }
 {
     for header in group {
         let note = notes.note(header.number);

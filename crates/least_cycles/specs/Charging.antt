@@ -1,4 +1,4 @@
--- The charges of loops, function by function and in each of them the innermost loops first.
+-- Scaffold: the charges of loops, function by function and in each of them the innermost loops first.
 use Rattle.std.specs.Prelude.{◌≡◌, ◌≢◌, ℕ, ◌+◌, ◌*◌, ◌^◌, ◌<◌, ◌≤◌, ◌↔◌, Bool, true, false, List, length, slice_get, slice_index, Option, Some, None}
 use Rattle.graph_algorithms.specs.Arcs.{number_in_place, AreDistinct}
 use Rattle.cost_theory.specs.Graph.{is_back}
@@ -95,8 +95,10 @@ loop_owner v t k = (graph v).owner ((loops v t).header k)
 
 -- the costs of a function's edges without charges, and those that are the last of a walk to an exit
 pub record ArePricedAt (v : FlowGraph) (w : ℕ → ℕ) (n : Charged) (f : ℕ) (costs : List ℕ) (lasts : List Bool) : Type 0 where
-  pub cost : (e : ℕ) → e < length v.code.edges → (graph v).owner ((graph v).source e) ≡ f → number_in_place costs e ≡ least_cost (graph v) w n.least e
-  pub last : (e : ℕ) → e < length v.code.edges → (graph v).owner ((graph v).source e) ≡ f → IsNodeFlagged lasts e ↔ IsExit (graph v) n.least e
+  pub cost : (e : ℕ) → e < length v.code.edges → (graph v).owner ((graph v).source e) ≡ f →
+      number_in_place costs e ≡ least_cost (graph v) w n.least e
+  pub last : (e : ℕ) → e < length v.code.edges → (graph v).owner ((graph v).source e) ≡ f →
+      IsNodeFlagged lasts e ↔ IsExit (graph v) n.least e
 
 -- loop k lies within loop l, and is another
 abbrev pub IsInner : FlowGraph → LoopView → ℕ → ℕ → Type 0
@@ -112,7 +114,8 @@ pub record IsChargeKnown (v : FlowGraph) (t : LoopView) (w : ℕ → ℕ) (n : C
 pub record IsBodyOf (v : FlowGraph) (t : LoopView) (l : ℕ) (nodes : List ℕ) : Type 0 where
   pub within : (i : ℕ) → i < length nodes → number_in_place nodes i < length v.code.nodes
   pub inside : (i : ℕ) → i < length nodes → (loops v t).inside l (node_address v (number_in_place nodes i)) ≡ true
-  pub whole : (k : ℕ) → k < length v.code.nodes → (loops v t).inside l (node_address v k) ≡ true → (i : ℕ) × (i < length nodes) × (number_in_place nodes i ≡ k)
+  pub whole : (k : ℕ) → k < length v.code.nodes → (loops v t).inside l (node_address v k) ≡ true → (i : ℕ) × (i < length nodes) ×
+      (number_in_place nodes i ≡ k)
   pub once : AreDistinct nodes
 
 -- flags of the edges of a set that end a turn of a loop, and of those that go on within it
@@ -136,11 +139,13 @@ header_key (Some l) f = Some f
 
 pub record AreHeaderKeys (v : FlowGraph) (order : List ℕ) (heads : List (Option ℕ)) (n : ℕ) (keys : List (Option ℕ)) : Type 0 where
   pub size : length keys ≡ n
-  pub each : (i : ℕ) → i < n → option_at keys i ≡ header_key (option_at heads (number_in_place order i)) ((graph v).owner (node_address v (number_in_place order i)))
+  pub each : (i : ℕ) → i < n → option_at keys i ≡ header_key (option_at heads (number_in_place order i))
+      ((graph v).owner (node_address v (number_in_place order i)))
 
 -- the chains of the places of headers by functions
 abbrev pub AreHeaderChains : FlowGraph → List ℕ → List (Option ℕ) → ChainView → Type 0
-AreHeaderChains v order heads chains = (keys : List (Option ℕ)) × AreHeaderKeys v order heads (length order) keys × AreChains keys (length v.code.functions) chains
+AreHeaderChains v order heads chains = (keys : List (Option ℕ)) × AreHeaderKeys v order heads (length order) keys ×
+    AreChains keys (length v.code.functions) chains
 
 -- a loop of function f whose header stands at a place from some one on
 abbrev pub IsHeaderFrom : FlowGraph → LoopView → ℕ → ℕ → ℕ → Type 0

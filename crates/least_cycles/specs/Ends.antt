@@ -1,4 +1,4 @@
--- The least costs behind the calls of functions, callers first.
+-- Scaffold: the least costs behind the calls of functions, callers first.
 use Rattle.std.specs.Prelude.{◌≡◌, ℕ, ◌+◌, ◌*◌, ◌^◌, ◌<◌, ◌≤◌, List, length, slice_get, Option, Some, None, IsSome}
 use Rattle.cost_theory.specs.Graph.{Graph}
 use Rattle.cost_theory.specs.Least.{Least, IsLeastIfAny, end_after}
@@ -30,5 +30,6 @@ AreBehindFrom v n f from least = IsLeastIfAny (λ e. IsBackTo (graph v) n f e ×
 pub record AreBehind (v : FlowGraph) (returns exits : List (Option ℕ)) (i : ℕ) (behind : List (Option ℕ)) : Type 0 where
   pub size : length behind ≡ length v.code.functions
   pub done : (h j : ℕ) → i ≤ j → slice_get v.order j ≡ Some h →
-      IsLeastIfAny (IsBackTo (graph v) (least_by v returns exits behind) h) (end_after (graph v) (least_by v returns exits behind)) (number_in_table behind h)
+      IsLeastIfAny (IsBackTo (graph v) (least_by v returns exits behind) h) (end_after (graph v) (least_by v returns exits behind))
+      (number_in_table behind h)
   pub low : (h x : ℕ) → number_in_table behind h ≡ Some x → x + i * 2 ^ 67 ≤ length v.order * 2 ^ 67

@@ -1,4 +1,4 @@
--- The least costs to a return and to an end, by node, and to an end after each edge: what LeastNumbers are seen as.
+-- Scaffold: the least costs to a return and to an end, by node, and to an end after each edge: what LeastNumbers are seen as.
 use Rattle.std.specs.Prelude.{◌≡◌, ℕ, ◌+◌, ◌^◌, ◌<◌, ◌≤◌, List, length, slice_get, Option, Some, None}
 use Rattle.graph_algorithms.specs.Arcs.{number_in_place}
 use Rattle.cost_theory.specs.Graph.{Loops}

@@ -1,4 +1,4 @@
--- Nodes by their numbers, and their edges as hops between them.
+-- Scaffold: nodes by their numbers, and their edges as hops between them.
 use Rattle.std.specs.Prelude.{◌≡◌, ℕ, ◌+◌, ◌<◌, true, Bool, false, List, map, length, slice_get, slice_index_or, Option, Some}
 use Rattle.graph_algorithms.specs.Arcs.{number_in_place, AreDistinct}
 use Rattle.cost_theory.specs.Graph.{total}
@@ -14,7 +14,8 @@ use Rattle.least_cycles.specs.Local.{IsHopOf}
 pub record IsBucket (v : FlowGraph) (f : ℕ) (bucket : List ℕ) : Type 0 where
   pub within : (i : ℕ) → i < length bucket → number_in_place bucket i < length v.code.nodes
   pub own : (i : ℕ) → i < length bucket → (graph v).owner (node_address v (number_in_place bucket i)) ≡ f
-  pub whole : (k : ℕ) → k < length v.code.nodes → (graph v).owner (node_address v k) ≡ f → (i : ℕ) × (i < length bucket) × (number_in_place bucket i ≡ k)
+  pub whole : (k : ℕ) → k < length v.code.nodes → (graph v).owner (node_address v k) ≡ f → (i : ℕ) × (i < length bucket) ×
+      (number_in_place bucket i ≡ k)
   pub once : AreDistinct bucket
 
 -- the numbers of some nodes, each once
@@ -61,14 +62,17 @@ pub record AreHopsOf (v : FlowGraph) (lasts steps : List Bool) (c : ℕ → ℕ)
   pub size : length edges ≡ length hops
   pub edge : (i e : ℕ) → slice_get edges i ≡ Some e → e < length v.code.edges
   pub all : (e : ℕ) → e < length v.code.edges → Done e → (i : ℕ) × (slice_get edges i ≡ Some e)
-  pub hop : (i e : ℕ) → slice_get edges i ≡ Some e → (h : Hop) × (slice_get hops i ≡ Some h) × IsHopOf (graph v) (is_in_flags lasts) (is_in_flags steps) c nodes h e
+  pub hop : (i e : ℕ) → slice_get edges i ≡ Some e → (h : Hop) × (slice_get hops i ≡ Some h) ×
+      IsHopOf (graph v) (is_in_flags lasts) (is_in_flags steps) c nodes h e
 
 -- by place of the node among some nodes, the least cost of a run over a last edge,
 abbrev pub AreLeastRuns : FlowGraph → List Bool → List Bool → (ℕ → ℕ) → List ℕ → List (Option ℕ) → Type 0
 AreLeastRuns v lasts steps c nodes table = (i : ℕ) → i < length nodes →
-    IsLeastIfAny (IsRun (graph v) false (is_in_flags lasts) (is_in_flags steps) (Some (node_address v (number_in_place nodes i)))) (total c) (number_in_table table i)
+    IsLeastIfAny (IsRun (graph v) false (is_in_flags lasts) (is_in_flags steps) (Some (node_address v (number_in_place nodes i))))
+    (total c) (number_in_table table i)
 
 -- and of a walk over a last edge
 abbrev pub AreLeastIn : FlowGraph → List Bool → (ℕ → ℕ) → List ℕ → List (Option ℕ) → Type 0
 AreLeastIn v lasts c nodes table = (i : ℕ) → i < length nodes →
-    IsLeastIfAny (EndsWith (graph v) (IsNodeFlagged lasts) (Some (node_address v (number_in_place nodes i)))) (total c) (number_in_table table i)
+    IsLeastIfAny (EndsWith (graph v) (IsNodeFlagged lasts) (Some (node_address v (number_in_place nodes i)))) (total c)
+    (number_in_table table i)

@@ -1,4 +1,4 @@
--- The graph that hops stand for, and a table of least costs by node.
+-- Scaffold: the graph that hops stand for, and a table of least costs by node.
 use Rattle.std.specs.Prelude.{◌≡◌, ℕ, ◌+◌, ◌*◌, ◌<◌, ◌≤◌, Bool, true, false, cond, nat_lt, List, length, slice_get, slice_set, slice_index_or, Option, Some, None, IfSome}
 use Rattle.std.specs.List.{sum_by}
 use Rattle.cost_theory.specs.Graph.{Graph, total}

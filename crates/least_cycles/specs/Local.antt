@@ -1,4 +1,4 @@
--- The edges of some nodes of a graph, as hops between its nodes by number.
+-- Scaffold: the edges of some nodes of a graph, as hops between its nodes by number.
 use Rattle.std.specs.Prelude.{◌≡◌, ◌⊎◌, ℕ, ◌+◌, ◌<◌, Bool, true, false, List, length, slice_get, Option, Some, None, nat_le, cond}
 use Rattle.cost_theory.specs.Graph.{Graph}
 use Rattle.least_cycles.specs.declared.Hop.{Hop}

@@ -1,4 +1,4 @@
--- What the functions of the passes work on together.
+-- Scaffold: what the functions of the passes work on together.
 use Rattle.std.specs.Prelude.{◌≡◌, ℕ, ◌^◌, ◌<◌, ◌≤◌, Bool, List, length, Option}
 use Rattle.graph_algorithms.specs.Arcs.{number_in_place}
 use Rattle.flow_graph.specs.FlowGraph.{graph, IsFlowGraph}
@@ -39,11 +39,13 @@ abbrev pub IsWayIn : Runs → Way → ℕ → Type 0
 IsWayIn r way e = IsWayOf (graph r.graph.now) (is_in_flags r.lasts.now) (is_in_flags r.steps.now) (addresses r.graph.now r.nodes.now) way e
 
 abbrev pub IsHopIn : Runs → Hop → ℕ → Type 0
-IsHopIn r h e = IsHopOf (graph r.graph.now) (is_in_flags r.lasts.now) (is_in_flags r.steps.now) (run_cost r) (addresses r.graph.now r.nodes.now) h e
+IsHopIn r h e = IsHopOf (graph r.graph.now) (is_in_flags r.lasts.now) (is_in_flags r.steps.now) (run_cost r)
+    (addresses r.graph.now r.nodes.now) h e
 
 -- the hops of the edges that are done
 abbrev pub AreHopsIn : Runs → (ℕ → Type 0) → List Hop → Type 0
-AreHopsIn r Done hops = (edges : List ℕ) × AreHopsOf r.graph.now r.lasts.now r.steps.now (run_cost r) (addresses r.graph.now r.nodes.now) Done edges hops
+AreHopsIn r Done hops = (edges : List ℕ) × AreHopsOf r.graph.now r.lasts.now r.steps.now (run_cost r) (addresses r.graph.now r.nodes.now)
+    Done edges hops
 
 -- the least costs of the runs from the nodes
 abbrev pub AreLeastOf : Runs → List (Option ℕ) → Type 0
@@ -113,5 +115,6 @@ pub record IsPlannedProgram (p : Program) : Type 0 where
 -- what is found of the functions that are done
 pub record AreFoundSoFar (p : Program) (Done : ℕ → Type 0) (found : Found) : Type 0 where
   pub charges : AreCharges p.graph.now p.tree.now found.charges
-  pub charged : (n : Charged) → IsCharging p.graph.now p.tree.now (own_weight p) n → AreChargedTo p.graph.now p.tree.now n (λ k. Done (loop_owner p.graph.now p.tree.now k)) found.charges.found.items
+  pub charged : (n : Charged) → IsCharging p.graph.now p.tree.now (own_weight p) n →
+      AreChargedTo p.graph.now p.tree.now n (λ k. Done (loop_owner p.graph.now p.tree.now k)) found.charges.found.items
   pub walks : HasWalks p.graph.now p.tree.now (own_weight p) Done found.walks.returns.items found.walks.exits.items

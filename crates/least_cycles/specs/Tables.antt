@@ -1,4 +1,4 @@
--- Least costs by node, as lists, and what stands in them while functions are done one after the other.
+-- Scaffold: least costs by node, as lists, and what stands in them while functions are done one after the other.
 use Rattle.std.specs.Prelude.{◌≡◌, ◌≢◌, ℕ, ◌+◌, ◌^◌, ◌<◌, ◌≤◌, ◌↔◌, Bool, true, List, [], ◌∷◌, length, slice_get, nat_eq, if◌then◌else◌, Option, Some, None, is_some}
 use Rattle.graph_algorithms.specs.Arcs.{number_in_place}
 use Rattle.cost_theory.specs.Graph.{Graph, total}
@@ -19,7 +19,8 @@ pub record AreOwnerKeys (v : FlowGraph) (n : ℕ) (keys : List (Option ℕ)) : T
 
 -- the chains of the nodes by their functions
 abbrev pub AreNodeChains : FlowGraph → ChainView → Type 0
-AreNodeChains v chains = (keys : List (Option ℕ)) × AreOwnerKeys v (length v.code.nodes) keys × AreChains keys (length v.code.functions) chains
+AreNodeChains v chains = (keys : List (Option ℕ)) × AreOwnerKeys v (length v.code.nodes) keys ×
+    AreChains keys (length v.code.functions) chains
 
 -- the function that each edge calls, where the call comes back over this edge
 abbrev pub back_from : Option ℕ → Option ℕ → Option ℕ
@@ -32,7 +33,8 @@ pub record AreBackKeys (v : FlowGraph) (n : ℕ) (keys : List (Option ℕ)) : Ty
 
 -- the chains of the edges by which calls come back, by the functions that are called
 abbrev pub AreBackChains : FlowGraph → ChainView → Type 0
-AreBackChains v chains = (keys : List (Option ℕ)) × AreBackKeys v (length v.code.edges) keys × AreChains keys (length v.code.functions) chains
+AreBackChains v chains = (keys : List (Option ℕ)) × AreBackKeys v (length v.code.edges) keys ×
+    AreChains keys (length v.code.functions) chains
 
 -- ---- tables by node
 
@@ -47,22 +49,26 @@ abbrev pub least_by : FlowGraph → List (Option ℕ) → List (Option ℕ) → 
 least_by v returns exits behind = record {
   to_return = value_beside v.code.nodes returns;
   to_exit = value_beside v.code.nodes exits;
-  to_end = λ a. lesser_cost (value_beside v.code.nodes exits a) (sum_of_both (value_beside v.code.nodes returns a) (number_in_table behind ((graph v).owner a)));
+  to_end = λ a. lesser_cost (value_beside v.code.nodes exits a) (sum_of_both (value_beside v.code.nodes returns a)
+      (number_in_table behind ((graph v).owner a)));
 }
 
 -- Costs of edges, and limits of functions: a walk from its entry to each End edge of a function stays within its limit.
 pub record AreFunctionLimits (g : Graph) (own limit : ℕ → ℕ) : Type 0 where
   pub small : (f : ℕ) → f < g.functions → limit f ≤ 2 ^ 48
   pub way : (e : ℕ) → e < g.edges → g.target e ≡ None →
-      (es : List ℕ) × EndsWith g (λ d. d ≡ e) (Some (g.entry (g.owner (g.source e)))) es × (total (λ d. own d + at_some (g.callee d) limit) es ≤ limit (g.owner (g.source e)))
+      (es : List ℕ) × EndsWith g (λ d. d ≡ e) (Some (g.entry (g.owner (g.source e)))) es ×
+      (total (λ d. own d + at_some (g.callee d) limit) es ≤ limit (g.owner (g.source e)))
 
 -- the numbers at entries are within the limits
 abbrev pub AreWithinLimits : FlowGraph → (ℕ → ℕ) → List (Option ℕ) → Type 0
-AreWithinLimits v limit table = (f x : ℕ) → f < length v.code.functions → value_beside v.code.nodes table ((graph v).entry f) ≡ Some x → x ≤ limit f
+AreWithinLimits v limit table = (f x : ℕ) → f < length v.code.functions → value_beside v.code.nodes table ((graph v).entry f) ≡ Some x →
+    x ≤ limit f
 
 -- and small
 abbrev pub AreSmallAtEntries : FlowGraph → List (Option ℕ) → Type 0
-AreSmallAtEntries v table = (f x : ℕ) → f < length v.code.functions → value_beside v.code.nodes table ((graph v).entry f) ≡ Some x → x ≤ 2 ^ 48
+AreSmallAtEntries v table = (f x : ℕ) → f < length v.code.functions → value_beside v.code.nodes table ((graph v).entry f) ≡ Some x →
+    x ≤ 2 ^ 48
 
 -- tables by node, with small numbers at the entries of functions
 pub record AreSmallTables (v : FlowGraph) (returns exits : List (Option ℕ)) : Type 0 where
@@ -102,9 +108,11 @@ pub record AreWalksOf (v : FlowGraph) (own limit : ℕ → ℕ) (Done : ℕ → 
   pub returns_size : length returns ≡ length v.code.nodes
   pub exits_size : length exits ≡ length v.code.nodes
   pub to_return : (k : ℕ) → k < length v.code.nodes → Done ((graph v).owner (node_address v k)) →
-      IsLeastIfAny (EndsWith (graph v) (IsReturn (graph v)) (Some (node_address v k))) (total (least_cost (graph v) own (least_by v returns exits []))) (number_in_table returns k)
+      IsLeastIfAny (EndsWith (graph v) (IsReturn (graph v)) (Some (node_address v k)))
+      (total (least_cost (graph v) own (least_by v returns exits []))) (number_in_table returns k)
   pub to_exit : (k : ℕ) → k < length v.code.nodes → Done ((graph v).owner (node_address v k)) →
-      IsLeastIfAny (EndsWith (graph v) (IsExit (graph v) (least_by v returns exits [])) (Some (node_address v k))) (total (least_cost (graph v) own (least_by v returns exits []))) (number_in_table exits k)
+      IsLeastIfAny (EndsWith (graph v) (IsExit (graph v) (least_by v returns exits [])) (Some (node_address v k)))
+      (total (least_cost (graph v) own (least_by v returns exits []))) (number_in_table exits k)
   pub low_return : AreWithinLimits v limit returns
   pub low_exit : AreWithinLimits v limit exits
   pub small_return : (k x : ℕ) → number_in_table returns k ≡ Some x → x ≤ 2 ^ 67

@@ -95,7 +95,8 @@ pub fn end_over(graph: &CodeGraph, walks: &Walks, behind: &[Option<u128>], e: us
     requires walks { AreSmallWalks graph.now walks.now.returns.items walks.now.exits.items }
     requires size { length behind.now ≡ length graph.now.code.functions }
     requires low { (f x : ℕ) → number_in_table behind.now f ≡ Some x → x ≤ 2 ^ 84 }
-    ensures { result ≡ end_place (least_by graph.now walks.now.returns.items walks.now.exits.items behind.now) ((graph_seen graph.now).target e) }
+    ensures { result ≡ end_place (least_by graph.now walks.now.returns.items walks.now.exits.items behind.now)
+        ((graph_seen graph.now).target e) }
 {
     match graph.target(e) {
         Some(k) => end_at(graph, walks, behind, k),
@@ -117,7 +118,8 @@ fn behind_of(
     requires size { length behind.now ≡ length graph.now.code.functions }
     requires low { (h x : ℕ) → number_in_table behind.now h ≡ Some x → x ≤ 2 ^ 84 }
     requires function { f < length graph.now.code.functions }
-    ensures { IsLeastIfAny (IsBackTo (graph_seen graph.now) (least_by graph.now walks.now.returns.items walks.now.exits.items behind.now) f) (end_after (graph_seen graph.now) (least_by graph.now walks.now.returns.items walks.now.exits.items behind.now)) result }
+    ensures { IsLeastIfAny (IsBackTo (graph_seen graph.now) (least_by graph.now walks.now.returns.items walks.now.exits.items behind.now)
+        f) (end_after (graph_seen graph.now) (least_by graph.now walks.now.returns.items walks.now.exits.items behind.now)) result }
 {
     let mut least = None;
     let mut next = chains.last(f);

@@ -71,7 +71,8 @@ fn push_hops(runs: &Runs<'_>, i: usize, hops: &mut Vec<Hop>) -> Result<(), NoMem
 /// The hops of the edges of the nodes.
 fn hops_of(alloc: Global, runs: &Runs<'_>) -> Result<Vec<Hop>, NoMemory>
     requires { AreRuns runs.now }
-    ensures { IfOk result (λ hops. AreHopsIn runs.now (IsFromFirst runs.now.graph.now runs.now.nodes.now (length runs.now.nodes.now)) hops.items) }
+    ensures { IfOk result (λ hops. AreHopsIn runs.now (IsFromFirst runs.now.graph.now runs.now.nodes.now (length runs.now.nodes.now))
+        hops.items) }
 {
     let mut hops = Vec::new(alloc);
     for i in 0..runs.nodes.len() {

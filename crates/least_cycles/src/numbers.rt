@@ -84,7 +84,8 @@ pub(crate) fn ends_of(
     requires walks { AreSmallWalks graph.now walks.now.returns.items walks.now.exits.items }
     requires size { length behind.now ≡ length graph.now.code.functions }
     requires low { (f x : ℕ) → number_in_table behind.now f ≡ Some x → x ≤ 2 ^ 84 }
-    ensures { IfOk result (λ ends. AreEndsTo graph.now (least_by graph.now walks.now.returns.items walks.now.exits.items behind.now) (length graph.now.code.nodes) ends.items) }
+    ensures { IfOk result (λ ends. AreEndsTo graph.now (least_by graph.now walks.now.returns.items walks.now.exits.items behind.now)
+        (length graph.now.code.nodes) ends.items) }
 {
     let mut ends = Vec::new(alloc);
     for k in 0..graph.node_count() {
@@ -117,7 +118,8 @@ pub(crate) fn after_of(
     requires size { length behind.now ≡ length graph.now.code.functions }
     requires low { (f x : ℕ) → number_in_table behind.now f ≡ Some x → x ≤ 2 ^ 84 }
     requires charges { AreSmallCharges graph.now charges.now }
-    ensures { IfOk result (λ after. AreAfterTo graph.now (least_by graph.now walks.now.returns.items walks.now.exits.items behind.now) (charge_by charges.now.entries.items charges.now.found.items) (length graph.now.code.edges) after.items) }
+    ensures { IfOk result (λ after. AreAfterTo graph.now (least_by graph.now walks.now.returns.items walks.now.exits.items behind.now)
+        (charge_by charges.now.entries.items charges.now.found.items) (length graph.now.code.edges) after.items) }
 {
     let mut after = Vec::new(alloc);
     for e in 0..graph.edge_count() {

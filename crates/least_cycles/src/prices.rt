@@ -42,9 +42,12 @@ fn called(
     requires edge { e < length graph.now.code.edges }
     requires returns { length returns.now ≡ length graph.now.code.nodes }
     requires exits { length exits.now ≡ length graph.now.code.nodes }
-    ensures cost { unwrap_or result 0 ≡ least_call (graph_seen graph.now) (least_by graph.now returns.now exits.now []) e ((graph_seen graph.now).target e) }
-    ensures exit { (graph_seen graph.now).target e ≡ None → IsSome result → (f : ℕ) × ((graph_seen graph.now).callee e ≡ Some f) × IsSome (value_beside graph.now.code.nodes exits.now ((graph_seen graph.now).entry f)) }
-    ensures whole { (f : ℕ) → (graph_seen graph.now).target e ≡ None → (graph_seen graph.now).callee e ≡ Some f → IsSome (value_beside graph.now.code.nodes exits.now ((graph_seen graph.now).entry f)) → IsSome result }
+    ensures cost { unwrap_or result 0 ≡ least_call (graph_seen graph.now) (least_by graph.now returns.now exits.now []) e
+        ((graph_seen graph.now).target e) }
+    ensures exit { (graph_seen graph.now).target e ≡ None → IsSome result → (f : ℕ) × ((graph_seen graph.now).callee e ≡ Some f) ×
+        IsSome (value_beside graph.now.code.nodes exits.now ((graph_seen graph.now).entry f)) }
+    ensures whole { (f : ℕ) → (graph_seen graph.now).target e ≡ None → (graph_seen graph.now).callee e ≡ Some f →
+        IsSome (value_beside graph.now.code.nodes exits.now ((graph_seen graph.now).entry f)) → IsSome result }
 {
     let f = graph.callee(e)?;
     match graph.target(e) {
@@ -67,7 +70,8 @@ pub(crate) fn small(number: Option<u128>) -> u64
 /// Whether edge `e` is the last of a walk to an exit: an exit, or the end of a call in which there is one.
 fn is_last(graph: &CodeGraph, e: usize, exits_in_call: bool) -> bool
     requires edge { e < length graph.now.code.edges }
-    ensures { (result ≡ true) ↔ (((graph_seen graph.now).exits e ≡ true) ⊎ (((graph_seen graph.now).target e ≡ None) × (exits_in_call ≡ true))) }
+    ensures { (result ≡ true) ↔ (((graph_seen graph.now).exits e ≡ true) ⊎ (((graph_seen graph.now).target e ≡ None) ×
+        (exits_in_call ≡ true))) }
 {
     if graph.is_exit(e) {
         return true;

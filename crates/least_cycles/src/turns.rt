@@ -133,7 +133,8 @@ fn mark_body(body: &Body<'_>, spots: &[usize], turns: &mut Vec<bool>, stays: &mu
     requires spots { AreSpots body.now spots.now }
     requires turns { length turns.old.items ≡ length body.now.graph.now.code.edges }
     requires stays { length stays.old.items ≡ length body.now.graph.now.code.edges }
-    ensures { AreKindsIn body.now (IsFromFirst body.now.graph.now body.now.nodes.now (length body.now.nodes.now)) turns.new.items stays.new.items }
+    ensures { AreKindsIn body.now (IsFromFirst body.now.graph.now body.now.nodes.now (length body.now.nodes.now)) turns.new.items
+        stays.new.items }
 {
     for i in 0..body.nodes.len() {
         mark_node(body, spots, i, turns, stays);
@@ -144,7 +145,8 @@ fn mark_body(body: &Body<'_>, spots: &[usize], turns: &mut Vec<bool>, stays: &mu
 fn is_shut(graph: &CodeGraph, k: usize, lasts: &[bool]) -> bool
     requires node { k < length graph.now.code.nodes }
     requires size { length lasts.now ≡ length graph.now.code.edges }
-    ensures { (result ≡ true) ↔ ((e : ℕ) → e < length graph.now.code.edges → (graph_seen graph.now).source e ≡ node_address graph.now k → IsNodeFlagged lasts.now e → ⊥) }
+    ensures { (result ≡ true) ↔ ((e : ℕ) → e < length graph.now.code.edges → (graph_seen graph.now).source e ≡ node_address graph.now k →
+        IsNodeFlagged lasts.now e → ⊥) }
 {
     let (first, end) = graph.edges_of(k);
     for e in first..end {
@@ -159,7 +161,8 @@ fn is_shut(graph: &CodeGraph, k: usize, lasts: &[bool]) -> bool
 fn are_shut(graph: &CodeGraph, nodes: &[usize], lasts: &[bool]) -> bool
     requires nodes { AreNodeNumbers graph.now nodes.now }
     requires size { length lasts.now ≡ length graph.now.code.edges }
-    ensures { (result ≡ true) ↔ ((e : ℕ) → e < length graph.now.code.edges → IsFromFirst graph.now nodes.now (length nodes.now) e → IsNodeFlagged lasts.now e → ⊥) }
+    ensures { (result ≡ true) ↔ ((e : ℕ) → e < length graph.now.code.edges → IsFromFirst graph.now nodes.now (length nodes.now) e →
+        IsNodeFlagged lasts.now e → ⊥) }
 {
     for k in nodes {
         if !is_shut(graph, *k, lasts) {
@@ -185,8 +188,11 @@ fn turn_of(
     requires costs { length costs.now ≡ length body.now.graph.now.code.edges }
     requires low { (e : ℕ) → number_in_place costs.now e ≤ 2 ^ 49 }
     requires charges { AreCharges body.now.graph.now body.now.tree.now charges.now }
-    requires known { (w : ℕ → ℕ) × (n : Charged) × (lasts : List Bool) × IsChargeKnown body.now.graph.now body.now.tree.now w n body.now.number costs.now lasts charges.now.found.items }
-    ensures turn { IfOk result (λ x. (w : ℕ → ℕ) (n : Charged) (lasts : List Bool) → IsChargeKnown body.now.graph.now body.now.tree.now w n body.now.number costs.now lasts charges.now.found.items → x ≡ n.turn body.now.number) }
+    requires known { (w : ℕ → ℕ) × (n : Charged) × (lasts : List Bool) × IsChargeKnown body.now.graph.now body.now.tree.now w n
+        body.now.number costs.now lasts charges.now.found.items }
+    ensures turn { IfOk result (λ x. (w : ℕ → ℕ) (n : Charged) (lasts : List Bool) →
+        IsChargeKnown body.now.graph.now body.now.tree.now w n body.now.number costs.now lasts charges.now.found.items →
+        x ≡ n.turn body.now.number) }
     ensures marks { OnOk result (AreChargeMarks body.now.graph.now marks.new) }
 {
     let _count = body.graph.node_count();
@@ -221,7 +227,8 @@ pub fn charge_of_loop(
     requires marks { AreChargeMarks priced.now.graph.now marks.old }
     requires charges { AreCharges priced.now.graph.now priced.now.tree.now charges.now }
     requires known { (w : ℕ → ℕ) × (n : Charged) × IsLoopKnown priced.now w n l charges.now.found.items }
-    ensures charge { IfOk result (λ x. (w : ℕ → ℕ) (n : Charged) → IsLoopKnown priced.now w n l charges.now.found.items → x ≡ loop_charge priced.now.graph.now priced.now.tree.now n l) }
+    ensures charge { IfOk result (λ x. (w : ℕ → ℕ) (n : Charged) → IsLoopKnown priced.now w n l charges.now.found.items →
+        x ≡ loop_charge priced.now.graph.now priced.now.tree.now n l) }
     ensures marks { OnOk result (AreChargeMarks priced.now.graph.now marks.new) }
 {
     let trips = priced.tree.least_trips(l);

@@ -76,8 +76,12 @@ fn charge_loops(
     requires marks { AreChargeMarks priced.now.graph.now marks.old }
     requires charges { AreCharges priced.now.graph.now priced.now.tree.now charges.old }
     requires known { (w : ℕ → ℕ) × (n : Charged) × AreCostsKnown priced.now w n }
-    ensures charged { OnOk result ((w : ℕ → ℕ) (n : Charged) → AreCostsKnown priced.now w n → AreChargedTo priced.now.graph.now priced.now.tree.now n (λ k. loop_owner priced.now.graph.now priced.now.tree.now k ≡ priced.now.number) charges.new.found.items) }
-    ensures others { OnOk result ((k : ℕ) → k < length priced.now.tree.now.headers → loop_owner priced.now.graph.now priced.now.tree.now k ≢ priced.now.number → number_in_place charges.new.found.items k ≡ number_in_place charges.old.found.items k) }
+    ensures charged { OnOk result ((w : ℕ → ℕ) (n : Charged) → AreCostsKnown priced.now w n →
+        AreChargedTo priced.now.graph.now priced.now.tree.now n (λ k. loop_owner priced.now.graph.now priced.now.tree.now k ≡
+        priced.now.number) charges.new.found.items) }
+    ensures others { OnOk result ((k : ℕ) → k < length priced.now.tree.now.headers →
+        loop_owner priced.now.graph.now priced.now.tree.now k ≢ priced.now.number →
+        number_in_place charges.new.found.items k ≡ number_in_place charges.old.found.items k) }
     ensures charges { OnOk result (AreCharges priced.now.graph.now priced.now.tree.now charges.new) }
     ensures marks { OnOk result (AreChargeMarks priced.now.graph.now marks.new) }
 {
@@ -196,9 +200,11 @@ pub fn walks_of(
     requires tree { (extent : ℕ → ℕ → Bool) × IsLoopTree graph.now extent tree.now }
     requires plan { IsChargePlan graph.now tree.now plan.now }
     requires charging { HasCharging graph.now tree.now (number_in_place plan.now.own.items) }
-    ensures walks { IfOk result (λ found. HasWalks graph.now tree.now (number_in_place plan.now.own.items) IsAnyFunction found.0.returns.items found.0.exits.items) }
+    ensures walks { IfOk result (λ found. HasWalks graph.now tree.now (number_in_place plan.now.own.items) IsAnyFunction
+        found.0.returns.items found.0.exits.items) }
     ensures charges { IfOk result (λ found. AreCharges graph.now tree.now found.1) }
-    ensures charged { IfOk result (λ found. (n : Charged) → IsCharging graph.now tree.now (number_in_place plan.now.own.items) n → AreChargedTo graph.now tree.now n (λ k. IsAnyFunction k) found.1.found.items) }
+    ensures charged { IfOk result (λ found. (n : Charged) → IsCharging graph.now tree.now (number_in_place plan.now.own.items) n →
+        AreChargedTo graph.now tree.now n (λ k. IsAnyFunction k) found.1.found.items) }
 {
     let nodes = graph.node_count();
     let mut scratch = empty_scratch(alloc, graph)?;

@@ -1,50 +1,22 @@
 -- A program that has reasons is held, at the same level.
-use Rattle.std.proofs.Common.{◌≡◌, ℕ, cond, List, Some, Result, Ok, Err, inr, refl, sym, ap, ◌∙◌, subst}
-use Rattle.std.proofs.lemmas.Bool.{le-ltb}
+use Rattle.std.proofs.Common.{ℕ, List, Result, Ok, refl, sym}
 use Rattle.scale_base.specs.declared.refusal.Refusal.{Refusal}
-use Rattle.scale_base.specs.declared.refusal.Refusal.TheVariants.{TooLong}
 use Rattle.scale_base.specs.declared.summary.Summary.{Summary}
-use Rattle.scale_base.specs.Image.{Image, image_of}
-use Rattle.power_model.specs.Numbers.{PowerModel}
-use Rattle.power_model.specs.Slowest.{slowest_of}
-use Rattle.cost_theory.specs.Graph.{Graph}
-use Rattle.cost_theory.specs.Worst.{AreNumbers}
-use Rattle.loop_file.specs.declared.notes.LoopNote.{LoopNote}
-use Rattle.loop_file.specs.Loops.{read_loops}
-use Rattle.loop_forest.specs.Tree.{loops}
-use Rattle.machine_file.specs.Machine.{read_machine}
-use Rattle.rewritten_runs.specs.Stubs.{plain_weights}
-use Rattle.answer_parts.specs.Parts.{Then, unscaled}
-use Rattle.scaler.specs.Held.{IsHeld, IsHeldProgram, held_at, held_from, held_file, held_summary}
+use Rattle.program_sources.specs.declared.reading.Sources.{Sources}
+use Rattle.program_sources.proofs.Laws.{sources_are}
+use Rattle.scaler.specs.Held.{IsHeld, held_file, held_summary}
+use Rattle.scaler.proofs.Laws.{held_answer, held_by}
 use Rattle.level_reasons.specs.declared.shown.Shown.{Shown}
-use Rattle.level_reasons.specs.Program.{IsProgramShown, HasReasons, ShownProgramsAreHeld}
-
-then_is : {X Y : Type 0} (part : Result X Refusal) (x : X) (next : X → Result Y Refusal → Type 0) (answer : Result Y Refusal) → part ≡ Ok x → next x answer → Then part next answer
-then_is part x next answer e h = subst (λ q. Then q next answer) (sym e) h
-
-held_is : (power : PowerModel) (image : Image) (worst start : ℕ) → slowest_of power worst ≡ Some start → held_at power image worst ≡ Ok ((held_file image start, held_summary power worst start))
-unfolding held_at
-held_is power image worst start slow = ap (held_from power image worst) slow
-
-program_held : (power : PowerModel) (image : Image) (notes : List LoopNote) (shown : Shown) (h : IsProgramShown power image notes shown)
-    → IsHeldProgram power image notes (Ok ((held_file image shown.start, held_summary power (h.numbers.worst 0) shown.start)))
-program_held power image notes shown h = inr (inr (record {
-  code = h.code;
-  tree = h.tree;
-  numbers = h.numbers;
-  code_is = h.code_is;
-  tree_is = h.tree_is;
-  numbers_are = subst (λ (g : Graph). AreNumbers g (loops h.code h.tree) (plain_weights power image h.code) h.numbers) (sym h.code_is.graph_is) h.numbers_are;
-  answer_is = sym (ap (λ b. cond b (Err TooLong) (held_at power image (h.numbers.worst 0))) (le-ltb 281474976710656 (h.numbers.worst 0) h.short) ∙ held_is power image (h.numbers.worst 0) shown.start h.start);
-}))
+use Rattle.level_reasons.specs.Program.{HasReasons, ShownProgramsAreHeld}
 
 held_files : (image machine loop_file : List ℕ) (shown : Shown) (h : HasReasons image machine loop_file shown)
     → IsHeld image machine loop_file (Ok ((held_file h.original shown.start, held_summary h.power (h.program.numbers.worst 0) shown.start)))
-unfolding IsHeld
 held_files image machine loop_file shown h =
-    let answer : Result (List ℕ × Summary) Refusal = Ok ((held_file h.original shown.start, held_summary h.power (h.program.numbers.worst 0) shown.start)) in
-    then_is (read_machine machine) h.power _ answer h.power_is (then_is (image_of image) h.original _ answer h.original_is
-    (then_is (unscaled h.original.keyed_segment) tt _ answer h.unscaled (then_is (read_loops h.original loop_file) h.notes _ answer h.notes_are (program_held h.power h.original h.notes shown h.program))))
+    let s : Sources = record { power = h.power; view = h.original; notes = h.notes } in
+    let are = sources_are image machine loop_file s (record { power_is = h.power_is; view_is = h.original_is; unscaled = h.unscaled; notes_are = h.notes_are }) in
+    let p = h.program in
+    let answer : Result (List ℕ × Summary) Refusal = Ok ((held_file h.original shown.start, held_summary h.power (p.numbers.worst 0) shown.start)) in
+    held_answer image machine loop_file s answer are (held_by h.power h.original h.notes p.code p.tree p.numbers shown.start p.code_is p.tree_is p.numbers_are p.short h.program.start)
 
 pub shown_held : ShownProgramsAreHeld
 shown_held = λ image machine loop_file shown h. (

@@ -1,4 +1,4 @@
--- A program with its numbers, as the code keeps them.
+-- Scaffold: a program with its numbers, as the code keeps them.
 use Rattle.std.specs.Prelude.{◌≡◌, ℕ, ◌^◌, ◌<◌, Bool, length, slice_get, Some}
 use Rattle.power_model.specs.Numbers.{IsPowerModel}
 use Rattle.flow_graph.specs.FlowGraph.{IsFlowGraph}

@@ -42,7 +42,8 @@ pub record IsProgramShown (power : PowerModel) (image : Image) (notes : List Loo
   pub worst : shown.worst ≡ numbers.worst 0
   pub start : slowest_of power (numbers.worst 0) ≡ Some shown.start
   pub edges : AreEdgeLines power code (numbers_of code tree (plain_weights power image code) numbers least) shown.start shown.edges.items
-  pub loops : AreLoopLines power code tree (numbers_of code tree (plain_weights power image code) numbers least) shown.start shown.loops.items
+  pub loops : AreLoopLines power code tree (numbers_of code tree (plain_weights power image code) numbers least) shown.start
+      shown.loops.items
 
 -- or what `hold` refuses of it
 abbrev pub IsShownProgram : PowerModel → Image → List LoopNote → Result Shown Refusal → Type 0
@@ -68,4 +69,5 @@ AreReasons image machine loop_file (Err refusal) = IsHeld image machine loop_fil
 -- The law: a program that has reasons is one that `hold` stores, at the same level and with the same worst cycles.
 abbrev pub ShownProgramsAreHeld : Type 0
 ShownProgramsAreHeld = (image machine loop_file : List ℕ) (shown : Shown) → AreReasons image machine loop_file (Ok shown)
-    → (stored : List ℕ) × (summary : Summary) × IsHeld image machine loop_file (Ok ((stored, summary))) × (summary.start ≡ shown.start) × (summary.worst ≡ shown.worst)
+    → (stored : List ℕ) × (summary : Summary) × IsHeld image machine loop_file (Ok ((stored, summary))) × (summary.start ≡ shown.start) ×
+    (summary.worst ≡ shown.worst)

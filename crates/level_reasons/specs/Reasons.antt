@@ -58,7 +58,8 @@ IsEdgeReason power level told (edge.FallsShort falls needed) =
     (0 < level) × (entry_of power told level ≡ level) × (goes_down power level told ≡ false) × (falls ≡ percent_down told.slack told.left)
     × ((lack : ℕ) × IsLack power level told lack × (needed ≡ percent_up (told.slack + lack) told.left))
 IsEdgeReason power level told (edge.PaysNot least) =
-    (0 < level) × (entry_of power told level ≡ level) × (goes_down power level told ≡ true) × (pays power told.least level (level - 1) ≡ false) × (least ≡ told.least)
+    (0 < level) × (entry_of power told level ≡ level) × (goes_down power level told ≡ true) ×
+    (pays power told.least level (level - 1) ≡ false) × (least ≡ told.least)
 
 -- ---- the reason of a loop
 
@@ -135,7 +136,8 @@ pub record IsLoopLine (power : PowerModel) (v : FlowGraph) (t : LoopView) (n : P
   pub reason : IsLoopReason power level n.told (IsWayOut v t k) (slice_index t.bounds k) (n.turn k) line.reason
 
 abbrev pub AreEdgeLines : PowerModel → FlowGraph → ProgramNumbers → ℕ → List EdgeLine → Type 0
-AreEdgeLines power v n level lines = AreLinesOf (IsEdgeLine power v n level) (filter (has_line v n.told) (range_with_len 0 (length v.code.edges))) lines
+AreEdgeLines power v n level lines = AreLinesOf (IsEdgeLine power v n level) (filter (has_line v n.told)
+    (range_with_len 0 (length v.code.edges))) lines
 
 abbrev pub AreLoopLines : PowerModel → FlowGraph → LoopView → ProgramNumbers → ℕ → List LoopLine → Type 0
 AreLoopLines power v t n level lines = AreLinesOf (IsLoopLine power v t n level) (range_with_len 0 (length t.headers)) lines

@@ -1,4 +1,4 @@
--- The ways out of a loop, as they are gone through: by the nodes of its body.
+-- Scaffold: the ways out of a loop, as they are gone through: by the nodes of its body.
 use Rattle.std.specs.Prelude.{◌≡◌, ℕ, ◌*◌, ◌<◌, ◌≤◌, ◌⊎◌, Option, Some, None}
 use Rattle.graph_algorithms.specs.Arcs.{number_in_place}
 use Rattle.power_model.specs.Numbers.{PowerModel}

@@ -64,7 +64,8 @@ fn has_line(kind: EdgeKind, slack: u64) -> bool
 /// A line for each edge of a branch or of a jump that has slack, in their order.
 pub fn edge_lines(alloc: Global, program: &Numbered<'_>) -> Result<Vec<EdgeLine>, NoMemory>
     requires { IsNumbered program.now }
-    ensures { IfOk result (λ lines. (n : ProgramNumbers) → HoldsNumbers program.now n → AreEdgeLines program.now.power.now program.now.graph.now n program.now.start lines.items) }
+    ensures { IfOk result (λ lines. (n : ProgramNumbers) → HoldsNumbers program.now n →
+        AreEdgeLines program.now.power.now program.now.graph.now n program.now.start lines.items) }
 {
     let mut lines = Vec::new(alloc);
     for e in 0..program.graph.edge_count() {

@@ -33,7 +33,9 @@ fn reason_by(program: &Numbered<'_>, l: usize, way: Way) -> LoopReason
     requires above { 0 < program.now.start }
     requires within { l < length program.now.tree.now.headers }
     requires small { way.lack < 2 ^ 98 }
-    ensures { (n : ProgramNumbers) → HoldsNumbers program.now n → IsNearestKept program.now.power.now program.now.start n.told (IsWayOut program.now.graph.now program.now.tree.now l) (Some way) → IsLoopReason program.now.power.now program.now.start n.told (IsWayOut program.now.graph.now program.now.tree.now l) (slice_index program.now.tree.now.bounds l) (n.turn l) result }
+    ensures { (n : ProgramNumbers) → HoldsNumbers program.now n → IsNearestKept program.now.power.now program.now.start n.told
+        (IsWayOut program.now.graph.now program.now.tree.now l) (Some way) → IsLoopReason program.now.power.now program.now.start n.told
+        (IsWayOut program.now.graph.now program.now.tree.now l) (slice_index program.now.tree.now.bounds l) (n.turn l) result }
 {
     let bound = program.tree.bound(l);
     let turn = program.worst.iteration(l);
@@ -54,7 +56,8 @@ fn reason_by(program: &Numbered<'_>, l: usize, way: Way) -> LoopReason
 fn loop_reason(program: &Numbered<'_>, l: usize) -> LoopReason
     requires program { IsNumbered program.now }
     requires within { l < length program.now.tree.now.headers }
-    ensures { (n : ProgramNumbers) → HoldsNumbers program.now n → IsLoopReason program.now.power.now program.now.start n.told (IsWayOut program.now.graph.now program.now.tree.now l) (slice_index program.now.tree.now.bounds l) (n.turn l) result }
+    ensures { (n : ProgramNumbers) → HoldsNumbers program.now n → IsLoopReason program.now.power.now program.now.start n.told
+        (IsWayOut program.now.graph.now program.now.tree.now l) (slice_index program.now.tree.now.bounds l) (n.turn l) result }
 {
     if program.start == 0 {
         return LoopReason::AlreadySlowest;
@@ -70,7 +73,8 @@ fn loop_line(program: &Numbered<'_>, l: usize) -> LoopLine
     requires program { IsNumbered program.now }
     requires within { l < length program.now.tree.now.headers }
     requires few { l < 4096 }
-    ensures { (n : ProgramNumbers) → HoldsNumbers program.now n → IsLoopLine program.now.power.now program.now.graph.now program.now.tree.now n program.now.start l result }
+    ensures { (n : ProgramNumbers) → HoldsNumbers program.now n → IsLoopLine program.now.power.now program.now.graph.now
+        program.now.tree.now n program.now.start l result }
 {
     LoopLine {
         number: l as u32 + 1,
@@ -83,7 +87,8 @@ fn loop_line(program: &Numbered<'_>, l: usize) -> LoopLine
 /// A line for each loop, in their order.
 pub fn loop_lines(alloc: Global, program: &Numbered<'_>) -> Result<Vec<LoopLine>, NoMemory>
     requires { IsNumbered program.now }
-    ensures { IfOk result (λ lines. (n : ProgramNumbers) → HoldsNumbers program.now n → AreLoopLines program.now.power.now program.now.graph.now program.now.tree.now n program.now.start lines.items) }
+    ensures { IfOk result (λ lines. (n : ProgramNumbers) → HoldsNumbers program.now n →
+        AreLoopLines program.now.power.now program.now.graph.now program.now.tree.now n program.now.start lines.items) }
 {
     let mut lines = Vec::new(alloc);
     for l in 0..program.tree.loop_count() {

@@ -9,43 +9,26 @@ use crate::edges::edge_lines;
 use crate::loops::loop_lines;
 use crate::numbered::Numbered;
 use crate::shown::Shown;
-use answer_parts::check_unscaled;
-use code_graph::build_graph;
-use elf_image::ImageView;
-use elf_view::read_image;
 use least_cycles::least;
-use loop_file::{LoopNotes, read_loops};
-use loop_tree::build_loops;
-use machine_file::read_machine;
-use marked_images::starting_level;
-use power_model::Power;
+use program_sources::Sources;
 use scale_base::Stop;
-use scaler::weights_of;
+use scaler::TimedProgram;
 use std::alloc::Global;
-use worst_cycles::worst;
 
 /// The reasons of the program of an image, with the loops of its notes, or the first refusal of its code, of its loops or of its numbers.
-fn program_reasons(
-    alloc: Global,
-    view: &ImageView<'_>,
-    power: &Power,
-    notes: &LoopNotes,
-) -> Result<Shown, Stop>
-    requires { IsPowerModel power.now }
-    ensures { AnswersBy (λ shown. shown) result (IsShownProgram power.now view.now notes.now) }
+fn program_reasons(alloc: Global, sources: &Sources<'_>) -> Result<Shown, Stop>
+    requires { IsPowerModel sources.now.power }
+    ensures { AnswersBy (λ shown. shown) result (IsShownProgram sources.now.power sources.now.view sources.now.notes) }
 {
-    let graph = build_graph(alloc, view)?;
-    let tree = build_loops(alloc, &graph, notes)?;
-    let weights = weights_of(alloc, &graph, power)?;
-    let numbers = worst(alloc, &graph, &tree, &weights)?;
-    let total = numbers.total();
-    let start = starting_level(power, total)?;
-    let least = least(alloc, &graph, &tree, &weights)?;
+    let timed = TimedProgram::of(alloc, sources)?;
+    let start = timed.start;
+    let total = timed.worst.total();
+    let least = least(alloc, &timed.graph, &timed.tree, &timed.weights)?;
     let program = Numbered {
-        power,
-        graph: &graph,
-        tree: &tree,
-        worst: &numbers,
+        power: &sources.power,
+        graph: &timed.graph,
+        tree: &timed.tree,
+        worst: &timed.worst,
         least: &least,
         start,
     };
@@ -67,9 +50,6 @@ fn program_reasons(
 pub fn reasons(alloc: Global, image: &[u8], machine: &[u8], loops: &[u8]) -> Result<Shown, Stop>
     ensures { AnswersBy (λ shown. shown) result (AreReasons image.now machine.now loops.now) }
 {
-    let power = read_machine(alloc, machine)?;
-    let view = read_image(alloc, image)?;
-    check_unscaled(view.keyed())?;
-    let notes = read_loops(alloc, loops, &view)?;
-    program_reasons(alloc, &view, &power, &notes)
+    let sources = Sources::read(alloc, image, machine, loops)?;
+    program_reasons(alloc, &sources)
 }

@@ -83,7 +83,9 @@ fn nearest_at(program: &Numbered<'_>, l: usize, i: usize, found: Option<Way>) ->
     requires within { l < length program.now.tree.now.headers }
     requires place { i < length (body_of program.now.tree.now.bodies l) }
     requires found { IfSome found (λ way. way.lack < 2 ^ 98) }
-    ensures nearest { (n : ProgramNumbers) → HoldsNumbers program.now n → IsNearestKept program.now.power.now program.now.start n.told (IsWayAmong program.now.graph.now program.now.tree.now l i) found → IsNearestKept program.now.power.now program.now.start n.told (IsWayAmong program.now.graph.now program.now.tree.now l (i + 1)) result }
+    ensures nearest { (n : ProgramNumbers) → HoldsNumbers program.now n → IsNearestKept program.now.power.now program.now.start n.told
+        (IsWayAmong program.now.graph.now program.now.tree.now l i) found → IsNearestKept program.now.power.now program.now.start n.told
+        (IsWayAmong program.now.graph.now program.now.tree.now l (i + 1)) result }
     ensures small { IfSome result (λ way. way.lack < 2 ^ 98) }
 {
     let mut nearest = found;
@@ -102,7 +104,8 @@ pub fn nearest_way(program: &Numbered<'_>, l: usize) -> Option<Way>
     requires program { IsNumbered program.now }
     requires above { 0 < program.now.start }
     requires within { l < length program.now.tree.now.headers }
-    ensures nearest { (n : ProgramNumbers) → HoldsNumbers program.now n → IsNearestKept program.now.power.now program.now.start n.told (IsWayOut program.now.graph.now program.now.tree.now l) result }
+    ensures nearest { (n : ProgramNumbers) → HoldsNumbers program.now n → IsNearestKept program.now.power.now program.now.start n.told
+        (IsWayOut program.now.graph.now program.now.tree.now l) result }
     ensures small { IfSome result (λ way. way.lack < 2 ^ 98) }
 {
     let mut nearest = None;

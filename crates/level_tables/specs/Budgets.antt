@@ -17,7 +17,8 @@ pub record AreBudgets (power : PowerModel) (budget : ℕ → ℕ) (start worst :
 -- has more than that of i.
 abbrev pub is_switch_in_budget : PowerModel → (budget : ℕ → ℕ) → EdgeNumbers → ℕ → ℕ → Bool
 is_switch_in_budget power budget edge i l =
-    nat_le (edge.left * (level power.levels l).period + switch_time power i l + budget i) ((edge.left + edge.slack) * (level power.levels i).period + budget l)
+    nat_le (edge.left * (level power.levels l).period + switch_time power i l + budget i)
+    ((edge.left + edge.slack) * (level power.levels i).period + budget l)
 
 -- it pays, too
 abbrev pub meets_in_budget : PowerModel → (budget : ℕ → ℕ) → EdgeNumbers → ℕ → ℕ → Bool
@@ -47,7 +48,8 @@ pub record Entry : Type 0 where
 -- the least budget of the level behind it that it is within, by that of the level before it
 abbrev pub need : PowerModel → (budget : ℕ → ℕ) → Entry → ℕ
 need power budget x =
-    x.edge.left * (level power.levels x.to).period + switch_time power x.from x.to + budget x.from - (x.edge.left + x.edge.slack) * (level power.levels x.from).period
+    x.edge.left * (level power.levels x.to).period + switch_time power x.from x.to + budget x.from - (x.edge.left + x.edge.slack) *
+    (level power.levels x.from).period
 
 -- the most that entries which lead to a level need
 abbrev pub most_need : PowerModel → (budget : ℕ → ℕ) → List Entry → ℕ → ℕ

@@ -5,7 +5,7 @@ use Rattle.scale_base.specs.Image.{Image, image_of}
 use Rattle.scale_base.specs.Layout.{layout_of}
 use Rattle.scale_base.specs.State.{Setting, State}
 use Rattle.scale_base.specs.Run.{run_of, setting_of, start_of}
-use Rattle.cost_theory.specs.Graph.{Loops}
+use Rattle.cost_theory.specs.Graph.{Loops, with_trips}
 use Rattle.cost_theory.specs.Reached.{Code}
 use Rattle.code_text.specs.Text.{text_of}
 use Rattle.code_text.specs.TextGraph.{text_graph, IsReachedCode}
@@ -13,7 +13,7 @@ use Rattle.graph_runs.specs.KeptSteps.{Carried}
 use Rattle.graph_runs.specs.KeptRuns.{kept_at, most_returns, IsKeptUpTo}
 use Rattle.graph_runs.specs.RunTransitions.{returns_so}
 use Rattle.graph_runs.specs.Laws.{IsStartOver}
-use Rattle.graph_runs.proofs.Laws.{image_starts}
+use Rattle.graph_runs.proofs.Laws.{image_starts, kept_by_less}
 use Rattle.bound_laws.specs.Turning.{unasked, with_bounds, HasBound}
 use Rattle.bound_laws.specs.Values.{Values}
 use Rattle.bound_laws.proofs.Laws.{all_returns, found_kept, kept_before, kept_by_returns, loaded_small}
@@ -35,20 +35,25 @@ module _ (file : List ℕ) (image : Image) (levels : ℕ) (input : List ℕ) (co
   start : IsStartOver (text_of image) env s
   start = image_starts file image levels input read
 
+  -- a run that is kept by some loops is kept by others that keep as much of it
+  kept_over : (m : Loops) (n : ℕ) → ((j : ℕ) (d : Carried) → kept_at env s m j ≡ Some d → kept_at env s l j ≡ Some d) → IsKeptUpTo image levels input m n → IsKeptUpTo image levels input l n
+  kept_over m n by kept = record {
+    carried = kept.carried;
+    kept = by n kept.carried kept.kept;
+    shallow = λ j c le h.
+        let b = kept_before env s m n j kept.carried le kept.kept in
+        let same : b.0 ≡ c = some_same b.0 c (sym (by j b.0 b.1) ∙ h) in
+        subst (λ d. length d.returns ≤ most_returns) same (kept.shallow j b.0 le b.1);
+  }
+
   -- a run that is kept by some bounds is kept by greater ones
   pub greater_kept : (bounds : ℕ → ℕ) (n : ℕ) → ((k : ℕ) → k < l.loops → bounds k ≤ l.bound k) → IsKeptUpTo image levels input (with_bounds l bounds) n → IsKeptUpTo image levels input l n
   greater_kept bounds n greater kept =
-      record {
-        carried = kept.carried;
-        kept = by n kept.carried kept.kept;
-        shallow = λ m c le h.
-            let b = kept_before env s (with_bounds l bounds) n m kept.carried le kept.kept in
-            let same : b.0 ≡ c = some_same b.0 c (sym (by m b.0 b.1) ∙ h) in
-            subst (λ d. length d.returns ≤ most_returns) same (kept.shallow m b.0 le b.1);
-      }
-    where
-      by : (m : ℕ) (d : Carried) → kept_at env s (with_bounds l bounds) m ≡ Some d → kept_at env s l m ≡ Some d
-      by m d h = found_kept (text_of image) env s code l bounds start reached (λ k kl. inr (greater k kl)) m d h
+      kept_over (with_bounds l bounds) n (λ j d h. found_kept (text_of image) env s code l bounds start reached (λ k kl. inr (greater k kl)) j d h) kept
+
+  -- and one that is kept where loops have to turn so often is kept where they have to turn less often
+  pub fewer_kept : (trips : ℕ → ℕ) (n : ℕ) → ((k : ℕ) → k < l.loops → l.least_trips k ≤ trips k) → IsKeptUpTo image levels input (with_trips l trips) n → IsKeptUpTo image levels input l n
+  fewer_kept trips n fewer kept = kept_over (with_trips l trips) n (λ j d h. kept_by_less env s (with_trips l trips) l.least_trips fewer j d h) kept
 
   abbrev AreReturns : ℕ → Type 0
   AreReturns m = (rs : List ℕ) × (returns_so (run_of image levels input m).steps ≡ Some rs) × (length rs ≤ most_returns)

@@ -6,5 +6,6 @@ pub mod Keys
 pub mod Lists
 pub mod Counts
 pub mod Keeping
+pub mod Turning
 pub mod Promises
 pub mod Laws

@@ -7,16 +7,23 @@ use Rattle.loop_file.specs.Loops.{read_loops}
 use Rattle.code_text.specs.Text.{text_of}
 use Rattle.code_text.specs.TextGraph.{text_graph}
 use Rattle.graph_runs.specs.KeptRuns.{IsKeptUpTo}
+use Rattle.cost_theory.specs.Graph.{with_trips}
+use Rattle.cost_theory.specs.Reached.{Code}
+use Rattle.bound_laws.specs.Values.{Values}
+use Rattle.stack_laws.specs.Stacks.{Stacks}
 use Rattle.turn_laws.specs.Relating.{IsShown}
 use Rattle.turn_laws.proofs.Laws.{shown_kept, shown_by_returns}
+use Rattle.lower_bounds.specs.LowerBounds.{IsLowerShown}
+use Rattle.lower_bounds.proofs.Laws.{lower_kept}
 use Rattle.loop_drafts.specs.declared.drafted.LoopDraft.{LoopDraft}
-use Rattle.loop_drafts.specs.Bounds.{most_turns, is_bounded, IsOpen, IsBoundShown, AreNoneFound, AreBoundsShown, AreBoundsFound}
+use Rattle.loop_drafts.specs.Bounds.{most_turns, is_bounded, IsOpen, NeedNotTurn, IsBoundShown, IsLeastShown, IsLeastFound, AreNoneFound, AreBoundsShown, AreBoundsFound}
 use Rattle.loop_drafts.specs.Pieces.{printed}
 use Rattle.loop_drafts.specs.Drafted.{filled_most, IsDraftOf, IsDrafted}
 use Rattle.loop_drafts.specs.Kept.{DraftedBoundsAreKept, DraftedFilesNeedReturns, DraftedReturnsGoBack, DraftedFilesAreKept, DraftedCountsAreTaken}
 use Rattle.loop_drafts.specs.Countable.{AreCounted, AreCountable}
 use Rattle.loop_drafts.proofs.Counts.{all_counted, none_open}
-use Rattle.loop_drafts.proofs.Keeping.{greater_kept, returns_kept, returns_back}
+use Rattle.loop_drafts.proofs.Keeping.{greater_kept, fewer_kept, returns_kept, returns_back}
+use Rattle.loop_drafts.proofs.Turning.{shown_too}
 use Rattle.loop_drafts.proofs.SameCounts.{counts_free}
 
 ok_same : {A B : Type 0} (o : Result A B) (x y : A) → o ≡ Ok x → o ≡ Ok y → x ≡ y
@@ -33,11 +40,21 @@ draft_of file draft original is read = subst (λ (o : Image). IsDraftOf o draft)
 not_open : (note : LoopNote) → is_bounded note ≡ true → IsOpen note → ⊥
 not_open note bounded most = let e : not (most_turns == most_turns) ≡ true = subst (λ (b : ℕ). not (b == most_turns) ≡ true) most bounded in let bad : ⊥ = cc in bad
 
+-- a note's loop has to turn no more often than so, or the code shows how often it does
+least_too : (original : Image) (code : Code) (v : Values) (w : Stacks) (notes : List LoopNote) (drafted : LoopNote) (k trips : ℕ) → note_at notes k ≡ drafted → IsLeastFound original code v w drafted →
+    IsLowerShown (text_of original) (text_graph (text_of original) code) v w (noted_loops notes) k ⊎ ((note_at notes k).at_least ≤ trips)
+least_too original code v w notes drafted k trips same found = ⊎_elim
+    (λ (none : NeedNotTurn drafted). inr (let e : (note_at notes k).at_least ≡ 0 = subst (λ (note : LoopNote). note.at_least ≡ 0) (sym same) none in omega arith))
+    (λ (shown : IsLeastShown original code v w drafted). inl (shown notes k same)) found
+
 pub bounds_kept : DraftedBoundsAreKept
-bounds_kept file draft original drafted notes levels input bounds n small_file is read noted finished small_input greater kept = ⊎_elim
-    (λ (none : AreNoneFound drafted draft.returns). greater_kept file original levels input d.graph.code (noted_loops notes) read d.graph_is.reached bounds n (λ k kl. greater k kl (none.open_loops k no_note (there k kl))) kept)
-    (λ (found : AreBoundsShown original drafted draft.returns). shown_kept file original levels input found.code found.values found.stacks (noted_loops notes) bounds read small_file small_input found.analysed
-    (λ k kl. which found k kl) n kept)
+bounds_kept file draft original drafted notes levels input bounds trips n small_file is read noted finished small_input written kept = ⊎_elim
+    (λ (none : AreNoneFound drafted draft.returns). let opened = λ (k : ℕ) (kl : k < length notes). written k kl (none.open_loops k no_note (there k kl)) in
+    fewer_kept file original levels input d.graph.code (noted_loops notes) read d.graph_is.reached trips n (λ k kl. (opened k kl).1)
+    (greater_kept file original levels input d.graph.code (with_trips (noted_loops notes) trips) read d.graph_is.reached bounds n (λ k kl. (opened k kl).0) kept))
+    (λ (found : AreBoundsShown original drafted draft.returns). lower_kept file original levels input found.code found.values found.stacks (noted_loops notes) trips read small_file small_input found.analysed
+    (λ k kl. least found k kl) n
+    (shown_kept file original levels input found.code found.values found.stacks (with_trips (noted_loops notes) trips) bounds read small_file small_input found.analysed (λ k kl. which found k kl) n kept))
     (subst (λ (ns : List LoopNote). AreBoundsFound original ns draft.returns) (ok_same (read_loops original (filled_most draft.pieces.items)) d.pieces.notes drafted d.pieces.file.read noted) d.pieces.bounds)
   where
     d : IsDraftOf original draft
@@ -47,13 +64,21 @@ bounds_kept file draft original drafted notes levels input bounds n small_file i
     there k kl = subst (λ (size : ℕ). k < size) finished.size kl
 
     which : (found : AreBoundsShown original drafted draft.returns) (k : ℕ) → k < length notes →
-        IsShown (text_of original) (text_graph (text_of original) found.code) found.values found.stacks (noted_loops notes) k ⊎ (bounds k ≤ (note_at notes k).bound)
+        IsShown (text_of original) (text_graph (text_of original) found.code) found.values found.stacks (with_trips (noted_loops notes) trips) k ⊎ (bounds k ≤ (note_at notes k).bound)
     which found k kl = ⊎_elim
-        (λ (most : IsOpen (note_at drafted k)). inr (greater k kl most))
+        (λ (most : IsOpen (note_at drafted k)). inr (written k kl most).0)
         (λ (same : note_at notes k ≡ note_at drafted k). ⊎_elim
-        (λ (most : IsOpen (note_at drafted k)). inr (greater k kl most))
-        (λ (shown : IsBoundShown original found.code found.values found.stacks (note_at drafted k)). inl (shown notes k same))
+        (λ (most : IsOpen (note_at drafted k)). inr (written k kl most).0)
+        (λ (shown : IsBoundShown original found.code found.values found.stacks (note_at drafted k)).
+        inl (shown_too (text_of original) (text_graph (text_of original) found.code) found.values found.stacks (noted_loops notes) trips k (shown notes k same)))
         (found.shown k no_note (there k kl)))
+        (finished.same k (there k kl))
+
+    least : (found : AreBoundsShown original drafted draft.returns) (k : ℕ) → k < length notes →
+        IsLowerShown (text_of original) (text_graph (text_of original) found.code) found.values found.stacks (noted_loops notes) k ⊎ ((note_at notes k).at_least ≤ trips k)
+    least found k kl = ⊎_elim
+        (λ (most : IsOpen (note_at drafted k)). inr (written k kl most).1)
+        (λ (same : note_at notes k ≡ note_at drafted k). least_too original found.code found.values found.stacks notes (note_at drafted k) k (trips k) same (found.least k no_note (there k kl)))
         (finished.same k (there k kl))
 
 pub files_need_returns : DraftedFilesNeedReturns
@@ -63,8 +88,10 @@ files_need_returns file draft original levels input n small_file small_input is 
   ⊎_elim
       (λ (none : AreNoneFound notes draft.returns). returns_kept file original levels input d.graph.code (noted_loops notes) read d.graph_is.reached n
       (λ k kl. absurd (not_open (note_at notes k) (bounded k no_note kl) (none.open_loops k no_note kl))) returns)
-      (λ (found : AreBoundsShown original notes draft.returns). shown_by_returns file original levels input found.code found.values found.stacks (noted_loops notes) read small_file small_input found.analysed
-      (λ k kl. (shown found k kl, d.pieces.least k no_note kl)) n returns) d.pieces.bounds,
+      (λ (found : AreBoundsShown original notes draft.returns). lower_kept file original levels input found.code found.values found.stacks (noted_loops notes) none_asked read small_file small_input found.analysed
+      (λ k kl. least_too original found.code found.values found.stacks notes (note_at notes k) k 0 refl (found.least k no_note kl)) n
+      (shown_by_returns file original levels input found.code found.values found.stacks (with_trips (noted_loops notes) none_asked) read small_file small_input found.analysed
+      (λ k kl. (shown found k kl, refl)) n returns)) d.pieces.bounds,
 )
   where
     d : IsDraftOf original draft
@@ -73,13 +100,18 @@ files_need_returns file draft original levels input n small_file small_input is 
     notes : List LoopNote
     notes = d.pieces.notes
 
+    none_asked : ℕ → ℕ
+    none_asked k = 0
+
     bounded : All (λ note. is_bounded note ≡ true) notes
     bounded = all_counted is_bounded notes (sym d.pieces.proved_are ∙ all ∙ d.pieces.loops_are)
 
-    shown : (found : AreBoundsShown original notes draft.returns) (k : ℕ) → k < length notes → IsShown (text_of original) (text_graph (text_of original) found.code) found.values found.stacks (noted_loops notes) k
+    shown : (found : AreBoundsShown original notes draft.returns) (k : ℕ) → k < length notes →
+        IsShown (text_of original) (text_graph (text_of original) found.code) found.values found.stacks (with_trips (noted_loops notes) none_asked) k
     shown found k kl = ⊎_elim
         (λ (most : IsOpen (note_at notes k)). absurd (not_open (note_at notes k) (bounded k no_note kl) most))
-        (λ (s : IsBoundShown original found.code found.values found.stacks (note_at notes k)). s notes k refl) (found.shown k no_note kl)
+        (λ (s : IsBoundShown original found.code found.values found.stacks (note_at notes k)).
+        shown_too (text_of original) (text_graph (text_of original) found.code) found.values found.stacks (noted_loops notes) none_asked k (s notes k refl)) (found.shown k no_note kl)
 
 pub returns_go_back : DraftedReturnsGoBack
 returns_go_back file draft original levels input n small_file small_input is read proved = ⊎_elim

@@ -12,6 +12,7 @@ use Rattle.stack_laws.specs.Stacks.{Stacks}
 use Rattle.turn_laws.specs.Relating.{IsShown}
 use Rattle.stack_laws.specs.Returning.{ComesBack}
 use Rattle.stack_laws.specs.Laws.{IsStackAnalysed}
+use Rattle.lower_bounds.specs.LowerBounds.{IsLowerShown}
 
 -- the greatest bound that a loop file may have
 abbrev pub most_turns : ℕ
@@ -28,19 +29,32 @@ is_bounded note = not (note.bound == most_turns)
 abbrev pub NeedNotTurn : LoopNote → Type 0
 NeedNotTurn note = note.at_least ≡ 0
 
--- the note with another bound, of a loop that need not turn, and is counted or isn't
+-- the note with another bound, of a loop that need not turn, and is counted or isn't; and with other least turns
 abbrev pub bounded_by : ℕ → Bool → LoopNote → LoopNote
 bounded_by bound counted note = record note { bound = bound; counted = counted; at_least = 0 }
+
+abbrev pub turning_by : ℕ → LoopNote → LoopNote
+turning_by least note = record note { at_least = least }
 
 -- ---- by tables of the registers and of the stack
 
 -- the bound of a note is shown by the code, among whatever notes it stands
 abbrev pub IsBoundShown : Image → Code → Values → Stacks → LoopNote → Type 0
-IsBoundShown image code v w note = (notes : List LoopNote) (k : ℕ) → note_at notes k ≡ note → IsShown (text_of image) (text_graph (text_of image) code) v w (noted_loops notes) k
+IsBoundShown image code v w note = (notes : List LoopNote) (k : ℕ) → note_at notes k ≡ note →
+    IsShown (text_of image) (text_graph (text_of image) code) v w (noted_loops notes) k
 
 -- the note has no bound, or one that is shown
 abbrev pub IsBoundFound : Image → Code → Values → Stacks → LoopNote → Type 0
 IsBoundFound image code v w note = IsOpen note ⊎ IsBoundShown image code v w note
+
+-- the least turns of a note are shown by the code, among whatever notes it stands
+abbrev pub IsLeastShown : Image → Code → Values → Stacks → LoopNote → Type 0
+IsLeastShown image code v w note = (notes : List LoopNote) (k : ℕ) → note_at notes k ≡ note →
+    IsLowerShown (text_of image) (text_graph (text_of image) code) v w (noted_loops notes) k
+
+-- its loop need not turn, or turns as often as is shown
+abbrev pub IsLeastFound : Image → Code → Values → Stacks → LoopNote → Type 0
+IsLeastFound image code v w note = NeedNotTurn note ⊎ IsLeastShown image code v w note
 
 -- where returns are said to be proved, the code shows that each goes back behind its call
 abbrev pub AreReturnsFound : Image → Code → Values → Stacks → Bool → Type 0
@@ -55,11 +69,13 @@ pub record AreBoundsShown (image : Image) (notes : List LoopNote) (returns : Boo
   pub stacks : Stacks
   pub analysed : IsStackAnalysed image code values stacks
   pub shown : All (IsBoundFound image code values stacks) notes
+  pub least : All (IsLeastFound image code values stacks) notes
   pub comes_back : AreReturnsFound image code values stacks returns
 
--- no note has a bound, and nothing is said of returns
+-- no note has a bound, no loop has to turn, and nothing is said of returns
 pub record AreNoneFound (notes : List LoopNote) (returns : Bool) : Type 0 where
   pub open_loops : All IsOpen notes
+  pub least : All NeedNotTurn notes
   pub unproved : returns ≡ false
 
 abbrev pub AreBoundsFound : Image → List LoopNote → Bool → Type 0

@@ -27,5 +27,6 @@ HaveOneCount notes notes' = map (λ note. note.counted) notes ≡ map (λ note. 
 
 -- The law: where the loops that notes count can be counted in a program's code, so can those of notes with any other bounds.
 abbrev pub CountsAreFree : Type 0
-CountsAreFree = (t : Text) (v v' : FlowGraph) (notes notes' : List LoopNote) (tree : LoopView) (refusal : Refusal) → IsGraphOf t v → IsGraphOf t v' →
+CountsAreFree = (t : Text) (v v' : FlowGraph) (notes notes' : List LoopNote) (tree : LoopView) (refusal : Refusal) → IsGraphOf t v →
+    IsGraphOf t v' →
     HaveOneShape notes notes' → HaveOneCount notes notes' → AreCounted v notes → IsTreeOf v' notes' tree → AreRefused v' tree refusal → ⊥

@@ -15,7 +15,7 @@ use Rattle.loop_forest.specs.Tree.{LoopView, IsTreeOf, IsTreeBuilt}
 use Rattle.loop_drafts.specs.declared.drafted.Piece.{Piece}
 use Rattle.loop_drafts.specs.declared.drafted.LoopDraft.{LoopDraft}
 use Rattle.loop_drafts.specs.Countable.{AreCountable}
-use Rattle.loop_drafts.specs.Bounds.{most_turns, is_bounded, NeedNotTurn, AreBoundsFound}
+use Rattle.loop_drafts.specs.Bounds.{most_turns, is_bounded, AreBoundsFound}
 use Rattle.loop_drafts.specs.Pieces.{BeginsWithReturns, filled, printed}
 
 -- the file with the greatest bound for each loop that has none
@@ -51,7 +51,6 @@ pub record AreTakenPieces (original : Image) (v : FlowGraph) (pieces : List Piec
   pub notes : List LoopNote
   pub file : AreReadAs original v pieces notes aside
   pub bounds : AreBoundsFound original notes returns
-  pub least : All NeedNotTurn notes
   pub loops_are : loops ≡ length notes
   pub proved_are : proved ≡ count_by is_bounded notes
 
@@ -129,4 +128,5 @@ IsDraftedImage original (Err refusal) = IsImageUndrafted original refusal
 -- the draft, or the first refusal: of the file, or of its image
 abbrev pub IsDrafted : List ℕ → Result LoopDraft Refusal → Type 0
 IsDrafted image (Ok draft) = (original : Image) × (image_of image ≡ Ok original) × IsDraftedImage original (Ok draft)
-IsDrafted image (Err refusal) = (image_of image ≡ Err refusal) ⊎ ((original : Image) × (image_of image ≡ Ok original) × IsDraftedImage original (Err refusal))
+IsDrafted image (Err refusal) = (image_of image ≡ Err refusal) ⊎ ((original : Image) × (image_of image ≡ Ok original) ×
+    IsDraftedImage original (Err refusal))

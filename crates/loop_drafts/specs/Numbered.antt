@@ -1,4 +1,4 @@
--- Lists by the numbers of nodes.
+-- Scaffold: lists by the numbers of nodes.
 use Rattle.std.specs.Prelude.{◌≡◌, ℕ, suc, ◌<◌, List, length, map, slice_index, Option, Some, None}
 
 -- so many numbers below a bound

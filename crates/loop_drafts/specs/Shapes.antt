@@ -17,5 +17,6 @@ HaveOneShape notes notes' = map shape notes ≡ map shape notes'
 
 -- The law: where the loops of notes are taken in a program's code, so are those of notes with any other bounds.
 abbrev pub BoundsAreFree : Type 0
-BoundsAreFree = (t : Text) (v v' : FlowGraph) (notes notes' : List LoopNote) (tree : LoopView) (refusal : Refusal) → IsGraphOf t v → IsGraphOf t v' →
+BoundsAreFree = (t : Text) (v v' : FlowGraph) (notes notes' : List LoopNote) (tree : LoopView) (refusal : Refusal) → IsGraphOf t v →
+    IsGraphOf t v' →
     HaveOneShape notes notes' → IsTreeOf v notes tree → IsTreeBuilt v' notes' (Err refusal) → ⊥

@@ -1,18 +1,32 @@
--- What looking for bounds finds of a program, by tables of its registers and of its stack.
+-- Scaffold: what looking for bounds finds of a program, by tables of its registers and of its stack.
 use Rattle.std.specs.Prelude.{Bool, List}
 use Rattle.std.specs.List.{All}
 use Rattle.loop_file.specs.declared.notes.LoopNote.{LoopNote}
 use Rattle.value_checks.specs.Tables.{values_of}
 use Rattle.stack_tables.specs.declared.claims.StackClaim.{StackClaim}
 use Rattle.stack_tables.specs.Tables.{stacks_of}
-use Rattle.loop_drafts.specs.Bounds.{AreReturnsFound, IsBoundFound}
+use Rattle.loop_drafts.specs.Bounds.{AreReturnsFound, IsBoundFound, IsBoundShown, IsLeastFound}
 
 abbrev pub IsFoundBy : StackClaim → LoopNote → Type 0
-IsFoundBy claim note = IsBoundFound claim.view.now claim.graph.now.code (values_of claim.graph.now.code claim.table.now) (stacks_of claim.graph.now.code claim.stack.now) note
+IsFoundBy claim note = IsBoundFound claim.view.now claim.graph.now.code (values_of claim.graph.now.code claim.table.now)
+    (stacks_of claim.graph.now.code claim.stack.now) note
 
 abbrev pub AreFoundBy : StackClaim → List LoopNote → Type 0
 AreFoundBy claim notes = All (IsFoundBy claim) notes
 
+-- the bound of a note is shown, and its least turns are found
+abbrev pub IsShownBy : StackClaim → LoopNote → Type 0
+IsShownBy claim note = IsBoundShown claim.view.now claim.graph.now.code (values_of claim.graph.now.code claim.table.now)
+    (stacks_of claim.graph.now.code claim.stack.now) note
+
+abbrev pub IsLeastFoundBy : StackClaim → LoopNote → Type 0
+IsLeastFoundBy claim note = IsLeastFound claim.view.now claim.graph.now.code (values_of claim.graph.now.code claim.table.now)
+    (stacks_of claim.graph.now.code claim.stack.now) note
+
+abbrev pub AreLeastFoundBy : StackClaim → List LoopNote → Type 0
+AreLeastFoundBy claim notes = All (IsLeastFoundBy claim) notes
+
 -- whether returns go back, as the same tables show
 abbrev pub AreReturnsFoundBy : StackClaim → Bool → Type 0
-AreReturnsFoundBy claim returns = AreReturnsFound claim.view.now claim.graph.now.code (values_of claim.graph.now.code claim.table.now) (stacks_of claim.graph.now.code claim.stack.now) returns
+AreReturnsFoundBy claim returns = AreReturnsFound claim.view.now claim.graph.now.code (values_of claim.graph.now.code claim.table.now)
+    (stacks_of claim.graph.now.code claim.stack.now) returns

@@ -1,4 +1,4 @@
--- Spans of nodes.
+-- Scaffold: spans of nodes.
 use Rattle.std.specs.Prelude.{ℕ, ◌<◌}
 use Rattle.loop_drafts.specs.declared.search.spans.Span.{Span}
 

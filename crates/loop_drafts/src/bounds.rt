@@ -2,16 +2,16 @@
 //! and that returns go back.
 
 ghost use Rattle.std.specs.Prelude.{◌≡◌, ◌++◌, ◌∷◌, [], false, IfOk, OnOk};
-ghost use Rattle.std.specs.List.{All};
 ghost use Rattle.code_text.specs.Text.{text_of};
 ghost use Rattle.flow_graph.specs.FlowGraph.{IsGraphOf};
 ghost use Rattle.stack_tables.specs.Tables.{IsStackClaim};
 ghost use Rattle.loop_drafts.specs.Bounds.{AreBoundsFound, AreNoneFound, IsOpen, NeedNotTurn};
-ghost use Rattle.loop_drafts.specs.Sought.{AreFoundBy, AreReturnsFoundBy, IsFoundBy};
+ghost use Rattle.loop_drafts.specs.Sought.{AreFoundBy, AreLeastFoundBy, AreReturnsFoundBy, IsFoundBy, IsLeastFoundBy};
 
 use crate::counting::dear_loops;
 use crate::draft::{Counter, Draft, Known, Place, Reason, Way};
 use crate::exact::is_exact;
+use crate::least::with_least;
 use crate::noted::{GREATEST_BOUND, bounded_by};
 use elf_image::ImageView;
 use flow_graph::CodeGraph;
@@ -84,6 +84,7 @@ fn left_open(
         known: Known {
             draft: Draft::Open(reason),
             counted,
+            at_least: 0,
         },
         note: bounded_by(alloc, note, GREATEST_BOUND, counted)?,
     })
@@ -127,7 +128,7 @@ fn counter_of(certificate: &StackCertificate) -> Counter {
     }
 }
 
-// A loop with a certificate that is found for it: with its bound, where the code confirms it.
+// A loop with a certificate that is found for it: with its bound, where the code confirms it, and with its least turns.
 fn confirmed(
     alloc: Global,
     claim: &StackClaim<'_>,
@@ -137,7 +138,7 @@ fn confirmed(
 ) -> Result<Sought, NoMemory>
     requires { IsStackClaim claim.now }
     ensures found { IfOk result (λ s. IsFoundBy claim.now s.note) }
-    ensures least { IfOk result (λ s. NeedNotTurn s.note) }
+    ensures least { IfOk result (λ s. IsLeastFoundBy claim.now s.note) }
 {
     let counter = counter_of(certificate);
     let bound = counter.bound();
@@ -149,12 +150,14 @@ fn confirmed(
     if !is_shown(claim, &bounded, certificate) {
         return left_open(alloc, note, Reason::NotConfirmed, counted);
     }
+    let turning = with_least(alloc, claim, bounded, certificate)?;
     Ok(Sought {
         known: Known {
             draft: Draft::Bounded(counter),
             counted,
+            at_least: turning.at_least,
         },
-        note: bounded,
+        note: turning,
     })
 }
 
@@ -202,7 +205,7 @@ fn seek(
 ) -> Result<Sought, NoMemory>
     requires { IsStackClaim claim.now }
     ensures found { IfOk result (λ s. IsFoundBy claim.now s.note) }
-    ensures least { IfOk result (λ s. NeedNotTurn s.note) }
+    ensures least { IfOk result (λ s. IsLeastFoundBy claim.now s.note) }
 {
     match sources.certificate(alloc, claim, k)? {
         Some(certificate) => {
@@ -229,7 +232,7 @@ fn seek_or_stop(
 ) -> Result<Sought, NoMemory>
     requires { IsStackClaim claim.now }
     ensures found { IfOk result (λ s. IsFoundBy claim.now s.note) }
-    ensures least { IfOk result (λ s. NeedNotTurn s.note) }
+    ensures least { IfOk result (λ s. IsLeastFoundBy claim.now s.note) }
 {
     if k >= most_loops(claim.graph) {
         return left_open(alloc, note, Reason::TooLarge, false);
@@ -255,8 +258,8 @@ fn seek_all(
 ) -> Result<Bounds, NoMemory>
     requires { IsStackClaim claim.now }
     ensures found { IfOk result (λ b. AreFoundBy claim.now b.notes.items) }
+    ensures least { IfOk result (λ b. AreLeastFoundBy claim.now b.notes.items) }
     ensures returns { IfOk result (λ b. AreReturnsFoundBy claim.now b.returns) }
-    ensures least { IfOk result (λ b. All NeedNotTurn b.notes.items) }
 {
     let mut bounds = Bounds::new(alloc, are_returns_proved(alloc, claim)?);
     for k in 0..notes.count() {
@@ -268,7 +271,6 @@ fn seek_all(
 /// Each loop without a bound.
 pub fn open_all(alloc: Global, notes: &LoopNotes, reason: Reason) -> Result<Bounds, NoMemory>
     ensures none { IfOk result (λ b. AreNoneFound b.notes.items b.returns) }
-    ensures least { IfOk result (λ b. All NeedNotTurn b.notes.items) }
 {
     let mut bounds = Bounds::new(alloc, false);
     for k in 0..notes.count() {
@@ -286,7 +288,6 @@ fn bounds_by(
 ) -> Result<Bounds, NoMemory>
     requires { IsStackClaim claim.now }
     ensures found { IfOk result (λ b. AreBoundsFound claim.now.view.now b.notes.items b.returns) }
-    ensures least { IfOk result (λ b. All NeedNotTurn b.notes.items) }
 {
     if !is_stack_analysed(claim) {
         return open_all(alloc, notes, Reason::NotAnalysed);
@@ -319,7 +320,6 @@ fn bounds_of(
 ) -> Result<Bounds, NoMemory>
     requires { IsGraphOf (text_of view.now) graph.now }
     ensures found { IfOk result (λ b. AreBoundsFound view.now b.notes.items b.returns) }
-    ensures least { IfOk result (λ b. All NeedNotTurn b.notes.items) }
 {
     let tables = analyse_loops(alloc, view, graph, tree)?;
     if !is_sized(graph, &tables.values) || !is_stack_sized(graph, &tables.stack) {
@@ -352,7 +352,6 @@ pub fn find_bounds(
 ) -> Result<Bounds, NoMemory>
     requires { IsGraphOf (text_of view.now) graph.now }
     ensures found { IfOk result (λ b. AreBoundsFound view.now b.notes.items b.returns) }
-    ensures least { IfOk result (λ b. All NeedNotTurn b.notes.items) }
 {
     match build_loops(alloc, graph, notes) {
         Ok(tree) => bounds_of(alloc, view, graph, &tree, notes, counts),

@@ -60,11 +60,12 @@ impl Draft {
     }
 }
 
-/// What a draft says of a loop: what is known of its turns, and whether it is to be counted.
+/// What a draft says of a loop: what is known of its turns, whether it is to be counted, and how often it turns at least, as far as that is known.
 #[derive(Clone, Copy)]
 pub struct Known {
     pub draft: Draft,
     pub counted: bool,
+    pub at_least: u32,
 }
 
 impl Known {
@@ -73,6 +74,7 @@ impl Known {
         Known {
             draft: Draft::Open(reason),
             counted: false,
+            at_least: 0,
         }
     }
 }

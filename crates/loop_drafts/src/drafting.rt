@@ -1,13 +1,12 @@
 //! The draft of an image's loop file, and whether its loops are taken.
 
 ghost use Rattle.std.specs.Prelude.{◌≡◌, ℕ, codes, vec_len, Bool, true, IfOk, None};
-ghost use Rattle.std.specs.List.{All};
 ghost use Rattle.scale_base.specs.Answer.{AnswersBy, Refuses};
 ghost use Rattle.scale_base.specs.declared.refusal.Refusal.TheVariants.{TooLarge};
 ghost use Rattle.code_text.specs.Text.{text_of};
 ghost use Rattle.flow_graph.specs.FlowGraph.{IsGraphOf};
 ghost use Rattle.loop_forest.specs.Tree.{IsLoopTree};
-ghost use Rattle.loop_drafts.specs.Bounds.{AreBoundsFound, NeedNotTurn};
+ghost use Rattle.loop_drafts.specs.Bounds.{AreBoundsFound};
 ghost use Rattle.loop_drafts.specs.Pieces.{BeginsWithReturns, printed};
 ghost use Rattle.loop_drafts.specs.Countable.{AreCountable, IsCountable};
 ghost use Rattle.loop_drafts.specs.Drafted.{AreTried, AreNotesTaken, ArePiecesRead, ArePiecesChecked, IsDraftTried, IsGraphDrafted, IsDraftedImage, IsDrafted};
@@ -154,7 +153,8 @@ fn check_pieces(
     pieces: &[Piece],
     wanted: &[LoopNote],
 ) -> Result<bool, Stop>
-    ensures { AnswersBy (λ same. same) result (ArePiecesChecked sketch.now.view.now sketch.now.graph.now pieces.now wanted.now (vec_len sketch.now.found.aside)) }
+    ensures { AnswersBy (λ same. same) result (ArePiecesChecked sketch.now.view.now sketch.now.graph.now pieces.now wanted.now
+        (vec_len sketch.now.found.aside)) }
 {
     let notes = read_pieces(alloc, sketch.view, pieces)?;
     if !are_wanted(&notes, wanted) {
@@ -196,7 +196,6 @@ fn draft_bounds(
 ) -> Result<Option<LoopDraft>, Stop>
     requires graph { IsGraphOf (text_of sketch.now.view.now) sketch.now.graph.now }
     requires found { AreBoundsFound sketch.now.view.now bounds.now.notes.items bounds.now.returns }
-    requires least { All NeedNotTurn bounds.now.notes.items }
     ensures { AnswersBy (λ draft. draft) result (IsDraftTried sketch.now.view.now sketch.now.graph.now) }
 {
     let pieces = pieces_with(alloc, sketch, bounds)?;

@@ -13,6 +13,7 @@ mod drafted;
 mod drafting;
 mod exact;
 mod found;
+mod least;
 mod noted;
 mod remarks;
 mod search;

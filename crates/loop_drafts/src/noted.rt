@@ -1,7 +1,7 @@
 //! Notes of loops with other bounds, and whether a file has the notes that are wanted.
 
 ghost use Rattle.std.specs.Prelude.{◌≡◌, true, IfOk, count_by};
-ghost use Rattle.loop_drafts.specs.Bounds.{bounded_by, is_bounded};
+ghost use Rattle.loop_drafts.specs.Bounds.{bounded_by, is_bounded, turning_by};
 
 use loop_file::{LoopNote, LoopNotes, RangeList};
 use scale_base::NoMemory;
@@ -37,6 +37,13 @@ pub fn bounded_by(
         counted,
         at_least: 0,
     })
+}
+
+/// The note of a loop that turns so often at least.
+pub fn turning_by(note: LoopNote, at_least: u32) -> LoopNote
+    ensures { result ≡ turning_by at_least note }
+{
+    LoopNote { at_least, ..note }
 }
 
 // Whether two lists have the same ranges.

@@ -133,12 +133,21 @@ fn push_flag(text: &mut String, counted: bool) -> Result<(), AllocError> {
     Ok(())
 }
 
+// Adds how often a loop turns at least, where that is known.
+fn push_least(text: &mut String, at_least: u32) -> Result<(), AllocError> {
+    if at_least > 0 {
+        write!(text, "at_least = {at_least}\n")?;
+    }
+    Ok(())
+}
+
 // Adds what is known of the turns of a loop, and whether they are to be counted. The line of a bound that is missing may follow.
 fn push_known(text: &mut String, known: Known) -> Result<(), AllocError> {
     match known.draft {
         Draft::Bounded(counter) => {
             push_bound(text, counter)?;
-            push_flag(text, known.counted)
+            push_flag(text, known.counted)?;
+            push_least(text, known.at_least)
         }
         Draft::Open(reason) => {
             push_flag(text, known.counted)?;

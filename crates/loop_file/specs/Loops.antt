@@ -101,7 +101,8 @@ module _ (image : Image) where
   -- the notes of loops, numbered from k on
   abbrev pub notes_from : ℕ → ℕ → List Members → Result (List LoopNote) Refusal
   notes_from version k [] = Ok []
-  notes_from version k (table ∷ tables) = note_of version k table >>= λ first. notes_from version (k + 1) tables >>= λ others. Ok (first ∷ others)
+  notes_from version k (table ∷ tables) = note_of version k table >>= λ first. notes_from version (k + 1) tables >>=
+      λ others. Ok (first ∷ others)
 
   -- the notes of a table
   unfoldable pub notes_of : Members → Result (List LoopNote) Refusal

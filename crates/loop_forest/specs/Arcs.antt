@@ -1,4 +1,4 @@
--- The edges between nodes, as arcs between their numbers.
+-- Scaffold: the edges between nodes, as arcs between their numbers.
 use Rattle.std.specs.Prelude.{◌≡◌, ℕ, ◌+◌, ◌<◌, ◌≤◌, List, length, slice_get, Option, Some, None, IsSome}
 use Rattle.graph_algorithms.specs.declared.orders.Arc.{Arc}
 use Rattle.graph_algorithms.specs.Arcs.{arc_at, number_in_place, AreDistinct}
@@ -23,7 +23,8 @@ IsArcOf v back e None = back ≡ None → (graph v).target e ≡ None
 pub record ArePlainArcs (v : FlowGraph) (backs : List (Option ℕ)) (n : ℕ) (arcs : List Arc) : Type 0 where
   pub few : length arcs ≤ n
   pub edge : (s : ℕ) → s < length arcs → (e : ℕ) × (e < n) × IsPlainBy backs e × IsEdgeBetween v e (arc_at arcs s).from (arc_at arcs s).to
-  pub whole : (e : ℕ) → e < n → IsPlainBy backs e → IsSome ((graph v).target e) → (s : ℕ) × (s < length arcs) × IsEdgeBetween v e (arc_at arcs s).from (arc_at arcs s).to
+  pub whole : (e : ℕ) → e < n → IsPlainBy backs e → IsSome ((graph v).target e) → (s : ℕ) × (s < length arcs) ×
+      IsEdgeBetween v e (arc_at arcs s).from (arc_at arcs s).to
 
 abbrev pub HasPlainEdge : FlowGraph → List (Option ℕ) → ℕ → ℕ → Type 0
 HasPlainEdge v backs a b = (e : ℕ) × (e < (graph v).edges) × IsPlainBy backs e × IsEdgeBetween v e a b

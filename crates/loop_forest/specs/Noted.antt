@@ -27,7 +27,8 @@ HaveOneHeader notes j k = (j < k) × (header_address notes j ≡ header_address 
 
 -- an edge leads from its body to its header
 abbrev pub HasBackEdge : FlowGraph → List LoopNote → ℕ → Type 0
-HasBackEdge v notes k = (e : ℕ) × (e < (graph v).edges) × IsBodyNode v notes k ((graph v).source e) × ((graph v).target e ≡ Some (header_address notes k))
+HasBackEdge v notes k = (e : ℕ) × (e < (graph v).edges) × IsBodyNode v notes k ((graph v).source e) ×
+    ((graph v).target e ≡ Some (header_address notes k))
 
 -- An edge from outside its body leads to a node of the body that isn't its header; or such a node is the entry of a function, which stands for
 -- both ends then.

@@ -1,4 +1,4 @@
--- What a LoopTree is seen as by its parts, and what every LoopTree keeps.
+-- Scaffold: what a LoopTree is seen as by its parts, and what every LoopTree keeps.
 use Rattle.std.specs.Prelude.{◌≡◌, ℕ, ◌<◌, ◌≤◌, List, length, slice_get, slice_index, Some}
 use Rattle.graph_algorithms.specs.Nesting.{bodies_of}
 use Rattle.cost_theory.specs.Lists.{body_of}

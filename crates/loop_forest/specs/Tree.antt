@@ -87,7 +87,8 @@ pub record IsLoopTree (v : FlowGraph) (extent : ℕ → ℕ → Bool) (t : LoopV
   pub parents : (k : ℕ) (o : Option ℕ) → slice_get t.parent k ≡ Some o → IsParent (loops v t) k o
   -- one for each edge, and for each node
   pub backs_size : length t.backs ≡ length v.code.edges
-  pub backs : (e k : ℕ) → (slice_get t.backs e ≡ Some (Some k)) ↔ ((e < length v.code.edges) × (k < length t.headers) × (is_back (graph v) (loops v t) k e ≡ true))
+  pub backs : (e k : ℕ) → (slice_get t.backs e ≡ Some (Some k)) ↔ ((e < length v.code.edges) × (k < length t.headers) ×
+      (is_back (graph v) (loops v t) k e ≡ true))
   pub innermost_size : length t.innermost ≡ length v.code.nodes
   pub innermost : (k : ℕ) (o : Option ℕ) → slice_get t.innermost k ≡ Some o → IsInnermost (loops v t) (node_address v k) o
 
@@ -97,7 +98,8 @@ pub record IsTreeOf (v : FlowGraph) (notes : List LoopNote) (t : LoopView) : Typ
   pub headers : map (node_address v) t.headers ≡ map (λ note. note.header) notes
   pub bounds : t.bounds ≡ map (λ note. note.bound) notes
   pub counted : t.counted ≡ map (λ note. note.counted) notes
-  pub trips : (k : ℕ) → k < length notes → IsLeastTrips v (loops v t) (noted_loops notes).inside k (note_at notes k).at_least (slice_index t.least_trips k)
+  pub trips : (k : ℕ) → k < length notes → IsLeastTrips v (loops v t) (noted_loops notes).inside k (note_at notes k).at_least
+      (slice_index t.least_trips k)
 
 -- an edge that is no back edge leads from one address to the other
 abbrev pub IsPlainStep : FlowGraph → Loops → ℕ → ℕ → Type 0

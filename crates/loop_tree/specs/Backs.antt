@@ -1,4 +1,4 @@
--- Back edges by the numbers of nodes, and what is known of the lists of loops.
+-- Scaffold: back edges by the numbers of nodes, and what is known of the lists of loops.
 use Rattle.std.specs.Prelude.{◌≡◌, ◌↔◌, ℕ, ◌<◌, true, List, length, slice_get, slice_index, slice_index_or, Option, Some, None}
 use Rattle.graph_algorithms.specs.Arcs.{AreDistinct}
 use Rattle.cost_theory.specs.Lists.{body_of, is_among}

@@ -1,4 +1,4 @@
--- What the passes over the notes of a program's loops find.
+-- Scaffold: what the passes over the notes of a program's loops find.
 use Rattle.std.specs.Prelude.{◌≡◌, ◌≢◌, ℕ, ◌+◌, ◌<◌, ◌≤◌, ◌↔◌, ◌⊎◌, Bool, true, List, length, slice_get, slice_index, Result, Ok, Err, Some}
 use Rattle.scale_base.specs.declared.refusal.Refusal.{Refusal}
 use Rattle.scale_base.specs.declared.refusal.Refusal.TheVariants.{SideEntry, TooDeep}
@@ -64,7 +64,8 @@ IsExtent v note extent = (k at : ℕ) → slice_get v.code.nodes k ≡ Some at �
 -- the loops of the notes from one number up to another
 pub record AreExtents (v : FlowGraph) (notes : List LoopNote) (headers : List ℕ) (first last : ℕ) (loops : List LoopExtent) : Type 0 where
   pub size : first + length loops ≡ last
-  pub at : (i : ℕ) (loop : LoopExtent) → slice_get loops i ≡ Some loop → (loop.header ≡ slice_index headers (first + i)) × IsExtent v (note_at notes (first + i)) loop.ranges.items
+  pub at : (i : ℕ) (loop : LoopExtent) → slice_get loops i ≡ Some loop → (loop.header ≡ slice_index headers (first + i)) ×
+      IsExtent v (note_at notes (first + i)) loop.ranges.items
 
 -- a node is in the body of a note's loop
 abbrev pub IsBodyNodeOf : FlowGraph → LoopNote → ℕ → Type 0
@@ -81,7 +82,8 @@ pub record IsNumberedBody (v : FlowGraph) (note : LoopNote) (body : List ℕ) : 
 
 -- the nodes of a body are of its header's function
 abbrev pub AreOwned : FlowGraph → ℕ → List ℕ → Type 0
-AreOwned v header body = (i at : ℕ) → IsIn body i → slice_get v.code.nodes i ≡ Some at → (graph v).owner at ≡ (graph v).owner (slice_index v.code.nodes header)
+AreOwned v header body = (i at : ℕ) → IsIn body i → slice_get v.code.nodes i ≡ Some at →
+    (graph v).owner at ≡ (graph v).owner (slice_index v.code.nodes header)
 
 abbrev pub IsFunctionEntry : FlowGraph → ℕ → Type 0
 IsFunctionEntry v i = (f : ℕ) × (f < (graph v).functions) × (slice_get v.code.nodes i ≡ Some ((graph v).entry f))
@@ -105,7 +107,8 @@ pub record AreDepths (v : FlowGraph) (notes : List LoopNote) (n : ℕ) (depths :
 -- An edge enters the body of loop i of a group past its header, or the entry of the header's function lies in the body, and isn't the header.
 abbrev pub IsEnteredBit : FlowGraph → List ℕ → ℕ → ℕ → ℕ → Type 0
 IsEnteredBit v bodies aside header i = HasBit aside i ⊎
-    ((entry : ℕ) × (slice_get v.code.nodes entry ≡ Some ((graph v).entry ((graph v).owner (slice_index v.code.nodes header)))) × (entry ≢ header) × IsFlagged bodies entry i)
+    ((entry : ℕ) × (slice_get v.code.nodes entry ≡ Some ((graph v).entry ((graph v).owner (slice_index v.code.nodes header)))) ×
+    (entry ≢ header) × IsFlagged bodies entry i)
 
 -- the body of loop k is entered aside by this pair of addresses, and by no lesser one
 pub record IsEnteredBy (v : FlowGraph) (notes : List LoopNote) (k : ℕ) (refusal : Refusal) : Type 0 where

@@ -1,4 +1,4 @@
--- How often loops turn at least, by the numbers of nodes.
+-- Scaffold: how often loops turn at least, by the numbers of nodes.
 use Rattle.std.specs.Prelude.{◌≡◌, ℕ, ◌<◌, true, List, length, slice_get, slice_index, Some}
 use Rattle.cost_theory.specs.Lists.{body_of, is_among}
 use Rattle.flow_graph.specs.FlowGraph.{FlowGraph}

@@ -30,7 +30,8 @@ pub fn cycle_of(alloc: Global, graph: &CodeGraph, numbers: &[usize]) -> Result<C
     requires flow { IsFlowGraph graph.now }
     requires some { 0 < length numbers.now }
     requires within { (i : ℕ) → i < length numbers.now → number_in_place numbers.now i < length graph.now.code.nodes }
-    ensures { (backs : List (Option ℕ)) → IsRoundOfNodes graph.now backs numbers.now → IfOk result (λ cycle. IsCycleBy (IsStepBy graph.now backs) cycle) }
+    ensures { (backs : List (Option ℕ)) → IsRoundOfNodes graph.now backs numbers.now →
+        IfOk result (λ cycle. IsCycleBy (IsStepBy graph.now backs) cycle) }
 {
     let addresses = addresses_of(alloc, graph, numbers)?;
     let cycle = least_first(addresses);

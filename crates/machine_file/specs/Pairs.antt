@@ -1,4 +1,4 @@
--- What a file says of the costs of switches, as contracts see it.
+-- Scaffold: what a file says of the costs of switches, as contracts see it.
 use Rattle.std.specs.Prelude.{List, ℕ, Vec, map}
 use Rattle.std.specs.declared.alloc.Global.{Global}
 use Rattle.machine_file.specs.declared.pairs.SwitchCost as rust

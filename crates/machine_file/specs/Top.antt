@@ -1,4 +1,4 @@
--- The numbers at the top of the file, as contracts see them.
+-- Scaffold: the numbers at the top of the file, as contracts see them.
 use Rattle.machine_file.specs.declared.reads.TopNumbers.{TopNumbers}
 use Rattle.machine_file.specs.Pairs.{cost_view}
 use Rattle.machine_file.specs.Machine.{FileNumbers}

@@ -1,4 +1,4 @@
--- A layout with a keyed segment of no bytes, and states and runs that differ in the window alone.
+-- Scaffold: a layout with a keyed segment of no bytes, and states and runs that differ in the window alone.
 use Rattle.std.specs.Prelude.{ℕ, List, Some}
 use Rattle.scale_base.specs.Layout.{Layout}
 use Rattle.scale_base.specs.State.{Setting, State}

@@ -10,7 +10,8 @@ ghost use Rattle.machine_laws.specs.Keys.{setting, with_empty_key, with_window, 
 /// A keyed segment of no bytes changes no run of a layout without one. The words of the window change none either, and stay
 /// as they were.
 pub fn an_empty_key_changes_no_run()
-    ensures same_run { (l : Layout) (base levels : ℕ) (input : List ℕ) (s : State) (w : List ℕ) (n : ℕ) → l.keyed ≡ None → run (setting (with_empty_key l base) levels input) (with_window s w) n ≡ run_with_window (run (setting l levels input) s n) w }
+    ensures same_run { (l : Layout) (base levels : ℕ) (input : List ℕ) (s : State) (w : List ℕ) (n : ℕ) → l.keyed ≡ None →
+        run (setting (with_empty_key l base) levels input) (with_window s w) n ≡ run_with_window (run (setting l levels input) s n) w }
 {}
 
 /// Without a keyed segment no completed step stores at the speed port, and none was fetched from the keyed segment.

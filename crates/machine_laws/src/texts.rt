@@ -9,8 +9,10 @@ ghost use Rattle.scale_base.specs.State.{word_at};
 /// A word of the text, which is read from the file, is the word that the loaded memory holds at its address, and it may
 /// be fetched.
 pub fn text_words_are_loaded()
-    ensures loaded { (file : List ℕ) (image : Image) (at w : ℕ) → image_of file ≡ Ok image → text_word image at ≡ Some w → word_at (loaded_byte image) at ≡ w }
-    ensures fetched { (file : List ℕ) (image : Image) (at w : ℕ) → image_of file ≡ Ok image → text_word image at ≡ Some w → can_fetch (layout_of image) at ≡ true }
+    ensures loaded { (file : List ℕ) (image : Image) (at w : ℕ) → image_of file ≡ Ok image → text_word image at ≡ Some w →
+        word_at (loaded_byte image) at ≡ w }
+    ensures fetched { (file : List ℕ) (image : Image) (at w : ℕ) → image_of file ≡ Ok image → text_word image at ≡ Some w →
+        can_fetch (layout_of image) at ≡ true }
 {}
 
 /// Each range of the text begins and ends at a multiple of 4, has an address, and ends below the addresses that a program

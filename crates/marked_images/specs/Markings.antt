@@ -1,4 +1,4 @@
--- The marks of a program's edges, its numbers under the stored weights and its budgets, as the code keeps them. What is wanted of the marks is a parameter.
+-- Scaffold: the marks of a program's edges, its numbers under the stored weights and its budgets, as the code keeps them. What is wanted of the marks is a parameter.
 use Rattle.std.specs.Prelude.{◌≡◌, ◌≢◌, ℕ, ◌*◌, ◌^◌, ◌<◌, ◌≤◌, Bool, List, [], length, All, slice_get, slice_index, Some}
 use Rattle.scale_base.specs.declared.fragments.Fragment.{Fragment}
 use Rattle.scale_base.specs.Image.{Image}
@@ -38,7 +38,8 @@ pub record IsMarking (power : PowerModel) (image : Image) (v : FlowGraph) (t : L
   pub iteration : (k : ℕ) → k < length t.headers → slice_get m.worst.iteration k ≡ Some (stored.iteration k)
   pub after_size : length m.least.after ≡ length v.code.edges
   pub after : (e : ℕ) → e < length v.code.edges → slice_get m.least.after e ≡ Some (to_end_after (graph v) (loops v t) least e)
-  pub slack_small : (e : ℕ) → e < length v.code.edges → slack_at (graph v) (loops v t) (stored_weights power image v (marked_where v t wanted)) stored e ≤ 2 ^ 50
+  pub slack_small : (e : ℕ) → e < length v.code.edges → slack_at (graph v) (loops v t)
+      (stored_weights power image v (marked_where v t wanted)) stored e ≤ 2 ^ 50
   pub rest_small : (e : ℕ) → e < length v.code.edges → rest_at (graph v) (loops v t) stored e ≤ 2 ^ 48
   pub turns_small : (k : ℕ) → k < length t.headers → (loops v t).bound k * stored.iteration k ≤ 2 ^ 48
   pub after_small : (e z : ℕ) → e < length v.code.edges → to_end_after (graph v) (loops v t) least e ≡ Some z → z < 2 ^ 89
@@ -48,23 +49,28 @@ abbrev pub test_of : PowerModel → Marking → tables.EdgeNumbers → ℕ → �
 test_of power m = meets_in_budget power (budget_at m.budgets)
 
 abbrev pub HasMarking : PowerModel → FlowGraph → LoopView → Marking → Type 0
-HasMarking power v t m = (image : Image) × (wanted : Wanted) × (stored : Numbers) × (least : Charged) × IsMarking power image v t wanted stored least m
+HasMarking power v t m = (image : Image) × (wanted : Wanted) × (stored : Numbers) × (least : Charged) ×
+    IsMarking power image v t wanted stored least m
 
 -- what is found, whatever the numbers of the marking
 abbrev pub Whichever : PowerModel → FlowGraph → LoopView → Marking → (Image → Wanted → Numbers → Charged → Type 0) → Type 0
-Whichever power v t m P = (image : Image) (wanted : Wanted) (stored : Numbers) (least : Charged) → IsMarking power image v t wanted stored least m → P image wanted stored least
+Whichever power v t m P = (image : Image) (wanted : Wanted) (stored : Numbers) (least : Charged) →
+    IsMarking power image v t wanted stored least m → P image wanted stored least
 
 abbrev pub told_view : Told → tables.EdgeNumbers
 told_view x = record { slack = x.slack; left = x.left; least = x.least }
 
 abbrev pub IsToldAt : PowerModel → FlowGraph → LoopView → Marking → ℕ → Told → Type 0
-IsToldAt power v t m e x = Whichever power v t m (λ image wanted stored least. told_view x ≡ told_at power image v t (marked_where v t wanted) stored least e)
+IsToldAt power v t m e x = Whichever power v t m (λ image wanted stored least. told_view x ≡ told_at power image v t
+    (marked_where v t wanted) stored least e)
 
 abbrev pub IsFragmentAt : PowerModel → FlowGraph → LoopView → Marking → ℕ → Mark → Fragment → Type 0
-IsFragmentAt power v t m e mark f = Whichever power v t m (λ image wanted stored least. f ≡ fragment_by power (test_of power m) (loops v t) (counted_loops t) stored (told_at power image v t (marked_where v t wanted) stored least e) mark)
+IsFragmentAt power v t m e mark f = Whichever power v t m (λ image wanted stored least. f ≡ fragment_by power (test_of power m) (loops v t)
+    (counted_loops t) stored (told_at power image v t (marked_where v t wanted) stored least e) mark)
 
 abbrev pub AreFragmentsAt : PowerModel → FlowGraph → LoopView → Marking → ℕ → List Fragment → Type 0
-AreFragmentsAt power v t m e fs = Whichever power v t m (λ image wanted stored least. fs ≡ fragments_with power (test_of power m) image v t (marked_where v t wanted) stored least e)
+AreFragmentsAt power v t m e fs = Whichever power v t m (λ image wanted stored least. fs ≡ fragments_with power (test_of power m) image v t
+    (marked_where v t wanted) stored least e)
 
 -- ---- the marked edges of a node
 
@@ -87,4 +93,5 @@ pub record AreEdgesOfNode (v : FlowGraph) (frags : ℕ → List Fragment) (at : 
   pub are : AreMarkedEdges v frags at (length v.code.edges) es
 
 abbrev pub AreEdgesAt : PowerModel → FlowGraph → LoopView → Marking → ℕ → List StubEdge → Type 0
-AreEdgesAt power v t m k es = Whichever power v t m (λ image wanted stored least. AreEdgesOfNode v (fragments_with power (test_of power m) image v t (marked_where v t wanted) stored least) (slice_index v.code.nodes k) es)
+AreEdgesAt power v t m k es = Whichever power v t m (λ image wanted stored least. AreEdgesOfNode v
+    (fragments_with power (test_of power m) image v t (marked_where v t wanted) stored least) (slice_index v.code.nodes k) es)

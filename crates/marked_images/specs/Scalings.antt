@@ -1,4 +1,4 @@
--- What the parts of a stored image are found to be, on the way from the marks to the file. What is wanted of the marks, and by which rule levels have budgets, are parameters.
+-- Scaffold: what the parts of a stored image are found to be, on the way from the marks to the file. What is wanted of the marks, and by which rule levels have budgets, are parameters.
 use Rattle.std.specs.Prelude.{◌≡◌, ◌⊎◌, ℕ, ◌<◌, ◌≤◌, min, List, length, map, All, slice_get, slice_index, Option, Some, None, Result, Ok, Err}
 use Rattle.scale_base.specs.declared.refusal.Refusal.{Refusal}
 use Rattle.scale_base.specs.declared.refusal.Refusal.TheVariants.{DeadlineMissed, TooLong}
@@ -63,10 +63,12 @@ pub record IsMarkedAt (power : PowerModel) (image : Image) (v : FlowGraph) (t : 
 pub record IsUnfit (power : PowerModel) (image : Image) (v : FlowGraph) (t : LoopView) (wanted : Wanted) (stored : Numbers) (refusal : Refusal) : Type 0 where
   pub stored_are : AreNumbers (graph v) (loops v t) (stored_weights power image v (marked_where v t wanted)) stored
   pub why : ((281474976710656 < stored.worst 0) × (refusal ≡ TooLong)) ⊎
-      ((stored.worst 0 ≤ 281474976710656) × (slowest_of power (stored.worst 0) ≡ None) × (refusal ≡ DeadlineMissed (time_at power (fastest power) (stored.worst 0)) power.deadline))
+      ((stored.worst 0 ≤ 281474976710656) × (slowest_of power (stored.worst 0) ≡ None) ×
+      (refusal ≡ DeadlineMissed (time_at power (fastest power) (stored.worst 0)) power.deadline))
 
 abbrev pub IsMarkingFound : PowerModel → Image → FlowGraph → LoopView → Wanted → BudgetRule → Result (Marking × ℕ) Refusal → Type 0
-IsMarkingFound power image v t wanted rule (Ok x) = (stored : Numbers) × (least : Charged) × IsMarkedAt power image v t wanted rule stored least x.0 x.1
+IsMarkingFound power image v t wanted rule (Ok x) = (stored : Numbers) × (least : Charged) ×
+    IsMarkedAt power image v t wanted rule stored least x.0 x.1
 IsMarkingFound power image v t wanted rule (Err refusal) = (stored : Numbers) × IsUnfit power image v t wanted stored refusal
 
 -- the graph and the loops of an image, whose counted loops can be counted, with its marking and its starting level
@@ -82,29 +84,37 @@ pub record IsMarked (power : PowerModel) (image : Image) (notes : List LoopNote)
 pub record AreStubsOf (power : PowerModel) (image : Image) (v : FlowGraph) (t : LoopView) (wanted : Wanted) (stored : Numbers) (least : Charged) (m : Marking) (stubs : List StubSite) : Type 0 where
   pub few : length stubs ≤ 131072
   pub each : All IsSite stubs
-  pub are : AreSitesOf image v.code (fragments_with power (test_of power m) image v t (marked_where v t wanted) stored least) (map site_of stubs)
+  pub are : AreSitesOf image v.code (fragments_with power (test_of power m) image v t (marked_where v t wanted) stored least)
+      (map site_of stubs)
 
 -- the marking of the program of an image
 abbrev pub IsMarkedProgram : PowerModel → Image → FlowGraph → LoopView → Marking → Type 0
-IsMarkedProgram power image v t m = (notes : List LoopNote) × (wanted : Wanted) × (stored : Numbers) × (least : Charged) × IsWeighedWith power image notes v t (marked_where v t wanted) stored × IsMarking power image v t wanted stored least m
+IsMarkedProgram power image v t m = (notes : List LoopNote) × (wanted : Wanted) × (stored : Numbers) × (least : Charged) ×
+    IsWeighedWith power image notes v t (marked_where v t wanted) stored × IsMarking power image v t wanted stored least m
 
 -- its stubs, whatever its numbers
 abbrev pub AreStubsFound : PowerModel → Image → FlowGraph → LoopView → Marking → List StubSite → Type 0
-AreStubsFound power image v t m stubs = (notes : List LoopNote) (wanted : Wanted) (stored : Numbers) (least : Charged) → IsWeighedWith power image notes v t (marked_where v t wanted) stored → IsMarking power image v t wanted stored least m → AreStubsOf power image v t wanted stored least m stubs
+AreStubsFound power image v t m stubs = (notes : List LoopNote) (wanted : Wanted) (stored : Numbers) (least : Charged) →
+    IsWeighedWith power image notes v t (marked_where v t wanted) stored → IsMarking power image v t wanted stored least m →
+    AreStubsOf power image v t wanted stored least m stubs
 
 -- the block at its base, or that it is out of reach there
 abbrev pub IsBlockGiven : Image → List StubSite → Result (StubBlock × ℕ) Refusal → Type 0
-IsBlockGiven image stubs (Ok x) = IsStubBase image (min (block_size (map site_of stubs)) 4194304) x.1 × (emitted x.1 (map site_of stubs) ≡ Ok (block_view x.0))
-IsBlockGiven image stubs (Err refusal) = (base : ℕ) × IsStubBase image (min (block_size (map site_of stubs)) 4194304) base × (emitted base (map site_of stubs) ≡ Err refusal)
+IsBlockGiven image stubs (Ok x) = IsStubBase image (min (block_size (map site_of stubs)) 4194304) x.1 ×
+    (emitted x.1 (map site_of stubs) ≡ Ok (block_view x.0))
+IsBlockGiven image stubs (Err refusal) = (base : ℕ) × IsStubBase image (min (block_size (map site_of stubs)) 4194304) base ×
+    (emitted base (map site_of stubs) ≡ Err refusal)
 
 -- ---- what stubs add
 
 -- the marks are those of a program whose worst cycles are in range under the stored weights
 abbrev pub IsInRange : PowerModel → FlowGraph → LoopView → SitesView → Type 0
-IsInRange power v t s = (image : Image) × (notes : List LoopNote) × (wanted : Wanted) × (stored : Numbers) × IsWeighedWith power image notes v t (marked_where v t wanted) stored × HasMarks v t wanted s × (stored.worst 0 ≤ 281474976710656)
+IsInRange power v t s = (image : Image) × (notes : List LoopNote) × (wanted : Wanted) × (stored : Numbers) ×
+    IsWeighedWith power image notes v t (marked_where v t wanted) stored × HasMarks v t wanted s × (stored.worst 0 ≤ 281474976710656)
 
 abbrev pub IsExtraFound : PowerModel → FlowGraph → LoopView → Wanted → Result ℕ Refusal → Type 0
-IsExtraFound power v t wanted (Ok x) = (extra : Numbers) × AreNumbers (graph v) (loops v t) (extra_weights power v (marked_where v t wanted)) extra × (x ≡ extra.worst 0)
+IsExtraFound power v t wanted (Ok x) = (extra : Numbers) × AreNumbers (graph v) (loops v t)
+    (extra_weights power v (marked_where v t wanted)) extra × (x ≡ extra.worst 0)
 IsExtraFound power v t wanted (Err refusal) = ⊥
 
 -- ---- together
@@ -118,13 +128,16 @@ pub record IsScaled (power : PowerModel) (image : Image) (notes : List LoopNote)
   pub weighed : IsWeighedWith power image notes v t (marked_where v t wanted) stored
   pub short : stored.worst 0 ≤ 281474976710656
   pub slow : slowest_of power (stored.worst 0) ≡ Some s.summary.start
-  pub stubs : HasStubsWith power (meets_in_budget power (rule s.summary.start (stored.worst 0))) image v t (marked_where v t wanted) stored extra least (map site_of s.stubs.items) s.base
+  pub stubs : HasStubsWith power (meets_in_budget power (rule s.summary.start (stored.worst 0))) image v t (marked_where v t wanted) stored
+      extra least (map site_of s.stubs.items) s.base
   pub near : out_of_reach s.base (map site_of s.stubs.items) ≡ None
   pub bytes : s.block.bytes.items ≡ block_bytes s.base (map site_of s.stubs.items)
   pub patches : s.block.patches.items ≡ patches_from s.base (map site_of s.stubs.items)
-  pub summary : s.summary ≡ rewritten_summary power v (marked_where v t wanted) s.summary.start (stored.worst 0) (extra.worst 0) (map site_of s.stubs.items)
+  pub summary : s.summary ≡ rewritten_summary power v (marked_where v t wanted) s.summary.start (stored.worst 0) (extra.worst 0)
+      (map site_of s.stubs.items)
 
 -- or that a stub is out of reach
-abbrev pub IsScalingFound : PowerModel → Image → List LoopNote → FlowGraph → LoopView → Wanted → BudgetRule → Result Scaling Refusal → Type 0
+abbrev pub IsScalingFound : PowerModel → Image → List LoopNote → FlowGraph → LoopView → Wanted → BudgetRule → Result Scaling Refusal →
+    Type 0
 IsScalingFound power image notes v t wanted rule (Ok s) = IsScaled power image notes v t wanted rule s
 IsScalingFound power image notes v t wanted rule (Err refusal) = IsStubbedProgram power image notes v t wanted rule (Err refusal)

@@ -60,6 +60,10 @@ pub record IsStubbedProgram (power : PowerModel) (image : Image) (notes : List L
   pub weighed : IsWeighedWith power image notes v t (marked_where v t wanted) stored
   pub short : stored.worst 0 ≤ 281474976710656
   pub slow : slowest_of power (stored.worst 0) ≡ Some start
-  pub stubs : HasStubsWith power (meets_in_budget power (rule start (stored.worst 0))) image v t (marked_where v t wanted) stored extra least sites base
-  pub answer_is : answer ≡ unless_out_of_reach (out_of_reach base sites)
-      (rewritten_file image sites base start, rewritten_summary power v (marked_where v t wanted) start (stored.worst 0) (extra.worst 0) sites)
+  pub stubs : HasStubsWith power (meets_in_budget power (rule start (stored.worst 0))) image v t (marked_where v t wanted) stored extra
+      least sites base
+  pub answer_is : answer ≡ unless_out_of_reach (out_of_reach base sites) (
+    rewritten_file image sites base start,
+    rewritten_summary power v (marked_where v t wanted) start (stored.worst 0) (extra.worst 0)
+        sites,
+  )

@@ -68,7 +68,8 @@ fn stub_cycles(
     requires tree { (extent : ℕ → ℕ → Bool) × IsLoopTree graph.now extent tree.now }
     requires range { scalings.IsInRange power.now graph.now tree.now sites.now }
     requires size { length sites.now.marks ≡ length graph.now.code.edges }
-    ensures { (wanted : Wanted) → scalings.HasMarks graph.now tree.now wanted sites.now → AnswersBy (λ n. n) result (scalings.IsExtraFound power.now graph.now tree.now wanted) }
+    ensures { (wanted : Wanted) → scalings.HasMarks graph.now tree.now wanted sites.now →
+        AnswersBy (λ n. n) result (scalings.IsExtraFound power.now graph.now tree.now wanted) }
 {
     let weights = sites.extra_weights(alloc, graph, &power.costs)?;
     let numbers = worst(alloc, graph, tree, &weights)?;
@@ -99,8 +100,11 @@ pub fn scaling_of(
 ) -> Result<Scaling, Stop>
     requires image { image_of view.now.file ≡ Ok view.now }
     requires power { IsPowerModel power.now }
-    requires marked { (notes : List LoopNote) × (wanted : Wanted) × (rule : BudgetRule) × scalings.IsMarked power.now view.now notes wanted rule marked.now }
-    ensures { (notes : List LoopNote) (wanted : Wanted) (rule : BudgetRule) → scalings.IsMarked power.now view.now notes wanted rule marked.now → AnswersBy (λ s. s) result (scalings.IsScalingFound power.now view.now notes marked.now.graph marked.now.tree wanted rule) }
+    requires marked { (notes : List LoopNote) × (wanted : Wanted) × (rule : BudgetRule) ×
+        scalings.IsMarked power.now view.now notes wanted rule marked.now }
+    ensures { (notes : List LoopNote) (wanted : Wanted) (rule : BudgetRule) →
+        scalings.IsMarked power.now view.now notes wanted rule marked.now → AnswersBy (λ s. s) result
+        (scalings.IsScalingFound power.now view.now notes marked.now.graph marked.now.tree wanted rule) }
 {
     let graph = &marked.graph;
     let tree = &marked.tree;
@@ -139,8 +143,10 @@ pub fn stored_file(
     requires read { image_of view.now.file ≡ Ok view.now }
     requires file { length view.now.file ≤ 4194304 }
     requires no_key { view.now.keyed_segment ≡ None }
-    requires scaled { (power : PowerModel) × (notes : List LoopNote) × (v : FlowGraph) × (t : LoopView) × (wanted : Wanted) × (rule : BudgetRule) × IsPowerModel power × scalings.IsScaled power view.now notes v t wanted rule scaling.now }
-    ensures { IfOk result (λ out. out.items ≡ rewritten_file view.now (map site_of scaling.now.stubs.items) scaling.now.base scaling.now.summary.start) }
+    requires scaled { (power : PowerModel) × (notes : List LoopNote) × (v : FlowGraph) × (t : LoopView) × (wanted : Wanted) ×
+        (rule : BudgetRule) × IsPowerModel power × scalings.IsScaled power view.now notes v t wanted rule scaling.now }
+    ensures { IfOk result (λ out. out.items ≡ rewritten_file view.now (map site_of scaling.now.stubs.items) scaling.now.base
+        scaling.now.summary.start) }
 {
     let block = &scaling.block;
     write_image(

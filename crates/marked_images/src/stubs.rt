@@ -245,7 +245,8 @@ fn stub_edges(
 /// The instruction of the word at an address.
 fn instr_at(view: &ImageView<'_>, at: u32) -> Option<Instr>
     requires { image_of view.now.file ≡ Ok view.now }
-    ensures some { IfSome result (λ i. (is_word_address view.now at ≡ true) × (instruction_at (text_of view.now) at ≡ Some i) × FieldsInRange i) }
+    ensures some { IfSome result (λ i. (is_word_address view.now at ≡ true) × (instruction_at (text_of view.now) at ≡ Some i) ×
+        FieldsInRange i) }
     ensures none { result ≡ None → is_word_address view.now at ≡ true → instruction_at (text_of view.now) at ≡ None }
 {
     let word = view.word_at(at)?;

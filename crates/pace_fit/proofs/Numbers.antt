@@ -10,7 +10,8 @@ use Rattle.scale_base.specs.Answer.{AnswersBy, Stops}
 use Rattle.machine_file.specs.Machine.{read_machine}
 use Rattle.scaler.specs.Held.{IsHeld}
 use Rattle.scaler.specs.Rewritten.{IsRewritten}
-use Rattle.marked_images.proofs.Laws.{then_stops}
+use Rattle.program_sources.proofs.Laws.{machine_stops as machine_refused, original_stops}
+use Rattle.scaler.proofs.Laws.{held_stops as files_stop}
 use Rattle.gain_tuner.specs.declared.choosing.Files.{Files}
 use Rattle.gain_tuner.specs.declared.choosing.Trial.{Trial}
 use Rattle.gain_tuner.specs.Finding.{IsSafeTrialOf, IsTrialOrOf, IsTried, Made}
@@ -34,8 +35,7 @@ if_ok_both (Err e) f h h' = tt
 
 -- the first refusal of all is that of the machine file
 machine_stops : (image machine loops : List ℕ) (stop : Stop) → Stops stop (read_machine machine) → AnswersBy {X = Vec ℕ Global × Summary} {Y = List ℕ × Summary} (λ given. (given.0.items, given.1)) (Err stop) (IsHeld image machine loops)
-unfolding IsHeld
-machine_stops image machine loops stop h = then_stops (read_machine machine) _ stop h
+machine_stops image machine loops stop h = files_stop image machine loops stop (original_stops image machine loops stop (machine_refused image machine stop h))
 
 pub held_stops : (image machine loops : List ℕ) (inputs : List (List ℕ)) (stop : Stop) → AnswersBy {X = Vec ℕ Global × Summary} {Y = List ℕ × Summary} (λ given. (given.0.items, given.1)) (Err stop) (IsHeld image machine loops) →
     AnswersBy {X = Prepared} {Y = Prepared} (λ p. p) (Err stop) (IsPreparing image machine loops inputs)

@@ -1,4 +1,4 @@
--- What the parts of a fitting find, on the way to what it gives.
+-- Scaffold: what the parts of a fitting find, on the way to what it gives.
 use Rattle.std.specs.Prelude.{◌≡◌, ℕ, ◌^◌, ◌≤◌, List, map, length, Option, Result, Ok, Err}
 use Rattle.std.specs.List.{All}
 use Rattle.scale_base.specs.declared.refusal.Refusal.{Refusal}

@@ -16,14 +16,17 @@ use Rattle.pace_fit.specs.Least.{IsLeastOver}
 -- what is given of a proposal: the image that `pace` makes of it, if no mark of it is dead there
 abbrev pub IsProposed : (image machine loop_file : List ℕ) → Proposal → Option (List ℕ × Summary) → Type 0
 IsProposed image machine loop_file proposal (Some given) = IsProposalPaced image machine loop_file proposal (Ok (Some given))
-IsProposed image machine loop_file proposal None = IsProposalPaced image machine loop_file proposal (Ok None) ⊎ ((refusal : Refusal) × IsProposalPaced image machine loop_file proposal (Err refusal))
+IsProposed image machine loop_file proposal None = IsProposalPaced image machine loop_file proposal (Ok None) ⊎
+    ((refusal : Refusal) × IsProposalPaced image machine loop_file proposal (Err refusal))
 
 -- ---- the choice where some input counts
 
 -- what is given of each candidate: by `hold`, and of each proposal
 pub record AreCandidates (image machine loop_file : List ℕ) (proposals : List Proposal) (given : ℕ → Option (List ℕ × Summary)) : Type 0 where
-  pub held : (stored : List ℕ) × (summary : Summary) × (given 0 ≡ Some ((stored, summary))) × IsHeld image machine loop_file (Ok ((stored, summary)))
-  pub proposed : (k : ℕ) (proposal : Proposal) → slice_get proposals k ≡ Some proposal → IsProposed image machine loop_file proposal (given (k + 1))
+  pub held : (stored : List ℕ) × (summary : Summary) × (given 0 ≡ Some ((stored, summary))) ×
+      IsHeld image machine loop_file (Ok ((stored, summary)))
+  pub proposed : (k : ℕ) (proposal : Proposal) → slice_get proposals k ≡ Some proposal →
+      IsProposed image machine loop_file proposal (given (k + 1))
 
 -- an answer is what is given: an image, or none
 abbrev pub Gives : Option (List ℕ × Summary) → Result (List ℕ × Summary) Refusal → Type 0
@@ -40,7 +43,8 @@ pub record IsCheapestFit (image machine loop_file : List ℕ) (inputs : List (Li
 
 -- the first n proposals are out
 abbrev pub AreOut : (image machine loop_file : List ℕ) → List Proposal → ℕ → Type 0
-AreOut image machine loop_file proposals n = (k : ℕ) (proposal : Proposal) → k < n → slice_get proposals k ≡ Some proposal → IsProposed image machine loop_file proposal None
+AreOut image machine loop_file proposals n = (k : ℕ) (proposal : Proposal) → k < n → slice_get proposals k ≡ Some proposal →
+    IsProposed image machine loop_file proposal None
 
 -- the image of proposal c - 1, before which all are out
 pub record IsBuilt (image machine loop_file : List ℕ) (proposals : List Proposal) (c : ℕ) (stored : List ℕ) (summary : Summary) : Type 0 where
@@ -59,17 +63,21 @@ pub record IsHeldOnly (image machine loop_file : List ℕ) (proposals : List Pro
 
 -- the image of the first proposal that isn't out, or else the image that `hold` stores
 abbrev pub IsFirstBuilt : (image machine loop_file : List ℕ) → List Proposal → ℕ → List ℕ → Summary → Type 0
-IsFirstBuilt image machine loop_file proposals c stored summary = IsBuilt image machine loop_file proposals c stored summary ⊎ IsHeldOnly image machine loop_file proposals c stored summary
+IsFirstBuilt image machine loop_file proposals c stored summary = IsBuilt image machine loop_file proposals c stored summary ⊎
+    IsHeldOnly image machine loop_file proposals c stored summary
 
 -- ---- both, by the inputs that count
 
 abbrev pub IsChosen : (image machine loop_file : List ℕ) → List (List ℕ) → List Proposal → ℕ → List ℕ → Summary → ℕ → Type 0
-IsChosen image machine loop_file [] proposals c stored summary energy = IsFirstBuilt image machine loop_file proposals c stored summary × (energy ≡ 0)
-IsChosen image machine loop_file (one ∷ more) proposals c stored summary energy = IsCheapestFit image machine loop_file (one ∷ more) proposals c stored summary energy
+IsChosen image machine loop_file [] proposals c stored summary energy = IsFirstBuilt image machine loop_file proposals c stored summary ×
+    (energy ≡ 0)
+IsChosen image machine loop_file (one ∷ more) proposals c stored summary energy =
+    IsCheapestFit image machine loop_file (one ∷ more) proposals c stored summary energy
 
 -- no mark of the chosen proposal is dead in its image
 abbrev pub IsChosenUseful : (image machine loop_file : List ℕ) → List Proposal → ℕ → Type 0
-IsChosenUseful image machine loop_file proposals c = (k : ℕ) (proposal : Proposal) → c ≡ k + 1 → slice_get proposals k ≡ Some proposal → HasNoDeadMark image machine loop_file proposal
+IsChosenUseful image machine loop_file proposals c = (k : ℕ) (proposal : Proposal) → c ≡ k + 1 → slice_get proposals k ≡ Some proposal →
+    HasNoDeadMark image machine loop_file proposal
 
 -- ---- its numbers
 
@@ -87,14 +95,17 @@ HasEnergyIfAny machine inputs made None = (energy : ℕ) → HasEnergy machine i
 
 -- the energies of what `hold` and `rewrite` store
 abbrev pub IsHoldEnergy : (image machine loop_file : List ℕ) → List (List ℕ) → ℕ → Type 0
-IsHoldEnergy image machine loop_file inputs energy = (made : Result (List ℕ × Summary) Refusal) × IsHeld image machine loop_file made × HasEnergy machine inputs made energy
+IsHoldEnergy image machine loop_file inputs energy = (made : Result (List ℕ × Summary) Refusal) × IsHeld image machine loop_file made ×
+    HasEnergy machine inputs made energy
 
 abbrev pub IsRewriteEnergy : (image machine loop_file : List ℕ) → List (List ℕ) → Option ℕ → Type 0
-IsRewriteEnergy image machine loop_file inputs energy = (made : Result (List ℕ × Summary) Refusal) × IsRewritten image machine loop_file made × HasEnergyIfAny machine inputs made energy
+IsRewriteEnergy image machine loop_file inputs energy = (made : Result (List ℕ × Summary) Refusal) ×
+    IsRewritten image machine loop_file made × HasEnergyIfAny machine inputs made energy
 
 -- the stored image and the numbers of the choice
 pub record IsFitted (image machine loop_file : List ℕ) (given : List (List ℕ)) (proposals : List Proposal) (stored : List ℕ) (fitted : Fitted) : Type 0 where
-  pub chosen : IsChosen image machine loop_file (counting image machine loop_file given) proposals fitted.candidate stored fitted.summary fitted.energy
+  pub chosen : IsChosen image machine loop_file (counting image machine loop_file given) proposals fitted.candidate stored fitted.summary
+      fitted.energy
   pub hold : IsHoldEnergy image machine loop_file (counting image machine loop_file given) fitted.hold_energy
   pub rewrite : IsRewriteEnergy image machine loop_file (counting image machine loop_file given) fitted.rewrite_energy
   pub least : IsLeastOver image machine loop_file (counting image machine loop_file given) fitted.least_energy

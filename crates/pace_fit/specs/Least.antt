@@ -44,7 +44,8 @@ bound_at power cycles a b = (cycles * least_rate power.levels a b - a * power.de
 
 -- at the price at which levels i and j, of which i is the slower one, take the same
 abbrev pub pair_bound : PowerModel → (cycles i j : ℕ) → ℕ
-pair_bound power cycles i j = bound_at power cycles ((level power.levels j).energy - (level power.levels i).energy) ((level power.levels i).period - (level power.levels j).period)
+pair_bound power cycles i j = bound_at power cycles ((level power.levels j).energy - (level power.levels i).energy)
+    ((level power.levels i).period - (level power.levels j).period)
 
 abbrev pub greatest : ℕ → List ℕ → ℕ
 greatest most bounds = fold (λ m bound. max m bound) most bounds

@@ -51,7 +51,8 @@ pub fn endings_of<P: Progress>(
     progress: &mut P,
 ) -> Result<Vec<Ending>, NoMemory>
     requires { HasHeld given.now.image.now given.now.machine.now given.now.loops.now }
-    ensures endings { IfOk result (λ found. found.items ≡ endings_on given.now.image.now given.now.machine.now given.now.loops.now (map (λ input. input.items) given.now.inputs.now)) }
+    ensures endings { IfOk result (λ found. found.items ≡ endings_on given.now.image.now given.now.machine.now given.now.loops.now
+        (map (λ input. input.items) given.now.inputs.now)) }
     ensures small { IfOk result (λ found. All (λ ending. ending.cycles ≤ 2 ^ 56) found.items) }
 {
     let mut endings = Vec::new(alloc);

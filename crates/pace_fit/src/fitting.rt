@@ -11,7 +11,7 @@ use crate::choosing::chosen;
 use crate::preparing::Prepared;
 use gain_tuner::{Files, GivenFiles, count_of, held_trial, trial_from};
 use paced_images::Proposal;
-use run_progress::{Part, Progress, Silent};
+use run_progress::{Part, Progress};
 use scale_base::{NoMemory, Summary};
 use scaler::rewrite;
 use std::alloc::Global;
@@ -84,7 +84,8 @@ fn fit<P: Progress>(
     ensures fitted { IfOk result (λ given. IsFitted files.now.image.now files.now.machine.now files.now.loops.now
         (given_inputs files.now) proposals.now given.0.items given.1) }
     ensures saves { IfOk result (λ given. given.1.energy ≤ given.1.hold_energy) }
-    ensures useful { IfOk result (λ given. IsChosenUseful files.now.image.now files.now.machine.now files.now.loops.now proposals.now given.1.candidate) }
+    ensures useful { IfOk result (λ given. IsChosenUseful files.now.image.now files.now.machine.now files.now.loops.now proposals.now
+        given.1.candidate) }
     ensures safe { IfOk result (λ given. IsStoredSafely files.now.image.now files.now.machine.now files.now.loops.now
         given.0.items given.1.summary) }
 {
@@ -111,8 +112,17 @@ fn fit<P: Progress>(
     Ok((best.stored, fitted))
 }
 
-/// `choose`, which tells how far it is.
-pub fn choose_with_progress<P: Progress>(
+/// Of the image that `hold` stores and the images that `pace` makes of the proposals the one whose runs take the least energy on the inputs
+/// that count, of several the first, and the numbers of that choice.
+///
+/// An input counts where the original run exits within the machine file's steps and is kept. Candidate 0 is what `hold` stores, candidate
+/// k + 1 what `pace` makes of proposal k. A candidate is out where it is refused, where some mark of it can lower nothing in its image, or
+/// where its run on an input that counts is out of steps. Where no input counts, all energies are 0, and the choice is the first proposal of
+/// which an image is made that has no such mark, or else what `hold` stores. Energies are in the machine file's energy units.
+///
+/// There is one run at a time in memory, and one candidate beside the best so far. How far it is is told. The files have at most the bytes that the program
+/// loads: 4,194,304 of an image, 1,048,576 of each other file and of an input.
+pub fn choose<P: Progress>(
     alloc: Global,
     given: &GivenFiles<'_>,
     prepared: &Prepared,
@@ -124,13 +134,22 @@ pub fn choose_with_progress<P: Progress>(
     requires loops { length given.now.loops.now ≤ 1048576 }
     requires few { length given.now.inputs.now ≤ 64 }
     requires inputs { All (λ input. length input.items ≤ 1048576) given.now.inputs.now }
-    requires prepared { IsPrepared given.now.image.now given.now.machine.now given.now.loops.now (map (λ input. input.items) given.now.inputs.now) prepared.now }
+    requires prepared { IsPrepared given.now.image.now given.now.machine.now given.now.loops.now
+        (map (λ input. input.items) given.now.inputs.now) prepared.now }
     requires proposals { length proposals.now ≤ 64 }
     ensures fitted { IfOk result (λ fitted. IsFitted given.now.image.now given.now.machine.now given.now.loops.now (map (λ input. input.items) given.now.inputs.now)
         proposals.now fitted.0.items fitted.1) }
+
+    // The choice never takes more than the image that runs at one level.
     ensures saves { IfOk result (λ fitted. fitted.1.energy ≤ fitted.1.hold_energy) }
-    ensures useful { IfOk result (λ fitted. IsChosenUseful given.now.image.now given.now.machine.now given.now.loops.now proposals.now fitted.1.candidate) }
-    ensures safe { IfOk result (λ fitted. IsStoredSafely given.now.image.now given.now.machine.now given.now.loops.now fitted.0.items fitted.1.summary) }
+
+    // Each mark of the chosen proposal can lower a level in the stored image.
+    ensures useful { IfOk result (λ fitted. IsChosenUseful given.now.image.now given.now.machine.now given.now.loops.now proposals.now
+        fitted.1.candidate) }
+
+    // On each input on which the original run exits and is kept, the stored run keeps the promise.
+    ensures safe { IfOk result (λ fitted. IsStoredSafely given.now.image.now given.now.machine.now given.now.loops.now fitted.0.items
+        fitted.1.summary) }
 {
     let files = Files {
         image: given.image,
@@ -140,51 +159,4 @@ pub fn choose_with_progress<P: Progress>(
         flags: &prepared.flags,
     };
     fit(alloc, &files, prepared, proposals, progress)
-}
-
-/// Of the image that `hold` stores and the images that `pace` makes of the proposals the one whose runs take the least energy on the inputs
-/// that count, of several the first, and the numbers of that choice.
-///
-/// An input counts where the original run exits within the machine file's steps and is kept. Candidate 0 is what `hold` stores, candidate
-/// k + 1 what `pace` makes of proposal k. A candidate is out where it is refused, where some mark of it can lower nothing in its image, or
-/// where its run on an input that counts is out of steps. Where no input counts, all energies are 0, and the choice is the first proposal of
-/// which an image is made that has no such mark, or else what `hold` stores. Energies are in the machine file's energy units.
-///
-/// There is one run at a time in memory, and one candidate beside the best so far. The files have at most the bytes that the program
-/// loads: 4,194,304 of an image, 1,048,576 of each other file and of an input.
-pub fn choose(
-    alloc: Global,
-    image: &[u8],
-    machine: &[u8],
-    loops: &[u8],
-    inputs: &[Vec<u8>],
-    prepared: &Prepared,
-    proposals: &[Proposal],
-) -> Result<(Vec<u8>, Fitted), NoMemory>
-    requires image { length image.now ≤ 4194304 }
-    requires machine { length machine.now ≤ 1048576 }
-    requires loops { length loops.now ≤ 1048576 }
-    requires few { length inputs.now ≤ 64 }
-    requires inputs { All (λ input. length input.items ≤ 1048576) inputs.now }
-    requires prepared { IsPrepared image.now machine.now loops.now (map (λ input. input.items) inputs.now) prepared.now }
-    requires proposals { length proposals.now ≤ 64 }
-    ensures fitted { IfOk result (λ given. IsFitted image.now machine.now loops.now (map (λ input. input.items) inputs.now) proposals.now
-        given.0.items given.1) }
-
-    // The choice never takes more than the image that runs at one level.
-    ensures saves { IfOk result (λ given. given.1.energy ≤ given.1.hold_energy) }
-
-    // Each mark of the chosen proposal can lower a level in the stored image.
-    ensures useful { IfOk result (λ given. IsChosenUseful image.now machine.now loops.now proposals.now given.1.candidate) }
-
-    // On each input on which the original run exits and is kept, the stored run keeps the promise.
-    ensures safe { IfOk result (λ given. IsStoredSafely image.now machine.now loops.now given.0.items given.1.summary) }
-{
-    let given = GivenFiles {
-        image,
-        machine,
-        loops,
-        inputs,
-    };
-    choose_with_progress(alloc, &given, prepared, proposals, &mut Silent)
 }

@@ -11,5 +11,5 @@ mod trials;
 
 pub use bounds::least_energy;
 pub use endings::{Ending, is_counted};
-pub use fitting::{Fitted, choose, choose_with_progress};
-pub use preparing::{Prepared, prepare, prepare_with_progress};
+pub use fitting::{Fitted, choose};
+pub use preparing::{Prepared, prepare};

@@ -8,7 +8,7 @@ use crate::endings::{Ending, endings_of, flags_of};
 use gain_tuner::GivenFiles;
 use machine_file::read_machine;
 use power_model::Power;
-use run_progress::{Progress, Silent};
+use run_progress::Progress;
 use scale_base::{Stop, Summary};
 use scaler::hold;
 use std::alloc::Global;
@@ -24,8 +24,11 @@ pub struct Prepared {
     pub flags: Vec<bool>,
 }
 
-/// `prepare`, which tells how far it is.
-pub fn prepare_with_progress<P: Progress>(
+/// What is known of a program and its inputs before the choice; or the first refusal, which is that of `hold`. The original runs once on each
+/// input. How far these runs are is told.
+///
+/// The files have at most the bytes that the program loads: 4,194,304 of an image, 1,048,576 of each other file and of an input.
+pub fn prepare<P: Progress>(
     alloc: Global,
     files: &GivenFiles<'_>,
     progress: &mut P,
@@ -33,7 +36,8 @@ pub fn prepare_with_progress<P: Progress>(
     requires image { length files.now.image.now ≤ 4194304 }
     requires machine { length files.now.machine.now ≤ 1048576 }
     requires loops { length files.now.loops.now ≤ 1048576 }
-    ensures { AnswersBy (λ p. p) result (IsPreparing files.now.image.now files.now.machine.now files.now.loops.now (map (λ input. input.items) files.now.inputs.now)) }
+    ensures { AnswersBy (λ p. p) result (IsPreparing files.now.image.now files.now.machine.now files.now.loops.now
+        (map (λ input. input.items) files.now.inputs.now)) }
 {
     let power = read_machine(alloc, files.machine)?;
     let held = hold(alloc, files.image, files.machine, files.loops)?;
@@ -46,29 +50,4 @@ pub fn prepare_with_progress<P: Progress>(
         endings,
         flags,
     })
-}
-
-/// What is known of a program and its inputs before the choice; or the first refusal, which is that of `hold`. The original runs once on each
-/// input.
-///
-/// The files have at most the bytes that the program loads: 4,194,304 of an image, 1,048,576 of each other file and of an input.
-pub fn prepare(
-    alloc: Global,
-    image: &[u8],
-    machine: &[u8],
-    loops: &[u8],
-    inputs: &[Vec<u8>],
-) -> Result<Prepared, Stop>
-    requires image { length image.now ≤ 4194304 }
-    requires machine { length machine.now ≤ 1048576 }
-    requires loops { length loops.now ≤ 1048576 }
-    ensures { AnswersBy (λ p. p) result (IsPreparing image.now machine.now loops.now (map (λ input. input.items) inputs.now)) }
-{
-    let files = GivenFiles {
-        image,
-        machine,
-        loops,
-        inputs,
-    };
-    prepare_with_progress(alloc, &files, &mut Silent)
 }

@@ -17,27 +17,10 @@ use Rattle.loop_drafts.specs.Kept.{AreBytes}
 use Rattle.loop_drafts.specs.Pieces.{BeginsWithReturns, bound_line, filled, filled_piece, printed, printed_piece}
 use Rattle.loop_drafts.specs.Shapes.{HaveOneShape}
 use Rattle.loop_drafts.proofs.Laws.{bounds_free, bounds_kept, files_kept, files_need_returns, returns_go_back}
+use Rattle.version_fits.proofs.Laws.{printed_short, printed_shorter}
 use Rattle.pace_tool.specs.Drafts.{AlwaysGoesBack, AreNeverRefused, AreTakenIn, IsDraftFile, IsDraftedSafely, IsFinishedFile, IsKeptAlways, IsKeptByReturns, IsKeptByWritten, IsLoopFile}
 
 -- ---- the file as it is printed, and with bounds filled in
-
-printed_shorter : (bound : ℕ) (pieces : List Piece) → length (printed pieces) ≤ length (filled bound pieces)
-printed_shorter bound [] = omega arith
-printed_shorter bound (piece ∷ pieces) =
-    let rest = printed_shorter bound pieces in
-    let line : List ℕ = if piece.is_open then bound_line bound else [] in
-    let one : length (printed_piece piece ++ printed pieces) ≡ length (printed_piece piece) + length (printed pieces) = length-append (printed_piece piece) (printed pieces) in
-    let all : length (filled_piece bound piece ++ filled bound pieces) ≡ length (filled_piece bound piece) + length (filled bound pieces) = length-append (filled_piece bound piece) (filled bound pieces) in
-    let its : length (filled_piece bound piece) ≡ length (printed_piece piece) + length line = length-append (printed_piece piece) line in
-    omega arith
-
--- a drafted file isn't too long to be loaded
-pub printed_short : (image : List ℕ) (draft : LoopDraft) → IsDrafted image (Ok draft) → length (printed draft.pieces.items) ≤ 1048576
-printed_short image draft drafted =
-    let of : IsDraftOf drafted.0 draft = drafted.2.1 in
-    let shorter = printed_shorter most_turns draft.pieces.items in
-    let low : length (filled_most draft.pieces.items) ≤ 1048576 = of.pieces.file.short in
-    omega arith
 
 -- where no piece is open, no line is added to one
 none_added : (text line : List ℕ) (is : Bool) (others : ℕ) → (if is then 1 else 0) + others ≡ 0 → text ≡ text ++ (if is then line else [])
@@ -103,8 +86,8 @@ module _ (image stored : List ℕ) (bytes : AreBytes image) (draft : LoopDraft) 
       subst (λ (ns : List LoopNote). IsKeptUpTo original levels input (noted_loops ns) n) one (law.2 levels input n are)
 
   kept_by_written : (finished : List ℕ) (notes : List LoopNote) (is : IsFinishedFile original draft finished notes) → IsKeptByWritten original is.drafted notes
-  kept_by_written finished notes is levels input bounds n are low kept =
-      bounds_kept image draft original is.drafted notes levels input bounds n bytes file.drafted file.drafted.1 is.drafted_are is.finished are low kept
+  kept_by_written finished notes is levels input bounds trips n are low kept =
+      bounds_kept image draft original is.drafted notes levels input bounds trips n bytes file.drafted file.drafted.1 is.drafted_are is.finished are low kept
 
   pub drafted_safely : IsDraftedSafely image stored draft
   drafted_safely =

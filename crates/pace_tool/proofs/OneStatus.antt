@@ -120,7 +120,7 @@ one_made (DrawPlan image machine loops out) pinned (i ∷ m ∷ l ∷ []) one ot
     runs.one_told (DrawsPlan i m l) (stored_answer plan_text out) (file_same (DrawsPlan i m l) (plan_apart i m l) plan_text out) one other x y
 one_made (Jumps image out) pinned (i ∷ []) one other x y =
     runs.one_told (DraftsJumps i) (stored_answer jumps_text out) (file_same (DraftsJumps i) (jumps_apart i) jumps_text out) one other x y
-one_made (InOne image machine out inputs) pinned files one other x y = absurd (cc)
+one_made (InOne image machine out versions inputs) pinned files one other x y = absurd (cc)
 one_made command pinned files one other x y = absurd x
 
 -- a status that was answered is that of every answer, where there is one
@@ -138,7 +138,7 @@ status_small (Explain image machine loops) (i ∷ m ∷ l ∷ []) answer x = tex
 status_small (DrawRun machine out names) (m ∷ given) answer x = file_told (DrawsRuns m names given) picture_text out answer x
 status_small (DrawPlan image machine loops out) (i ∷ m ∷ l ∷ []) answer x = file_told (DrawsPlan i m l) plan_text out answer x
 status_small (Jumps image out) (i ∷ []) answer x = file_told (DraftsJumps i) jumps_text out answer x
-status_small (InOne image machine out inputs) (i ∷ m ∷ given) answer x = in_one_small i m given out answer x.1
+status_small (InOne image machine out versions inputs) (i ∷ m ∷ given) answer x = in_one_small i m given versions out answer x.1
 status_small command files answer x = absurd x
 
 -- a reply has a status that may be given

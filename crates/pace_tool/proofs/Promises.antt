@@ -30,8 +30,8 @@ kept (Explain image machine loops) loaded files answer within made done = tt
 kept (DrawRun machine out names) loaded files answer within made done = tt
 kept (DrawPlan image machine loops out) loaded files answer within made done = tt
 kept (Jumps image out) loaded files answer within made done = tt
-kept (InOne image machine out inputs) (i ∷ m ∷ given) files answer within made done = in_one_kept i m out given files answer made.0 within.0 done made.1
-kept (InOne image machine out inputs) loaded files answer within made done = absurd made
+kept (InOne image machine out versions inputs) (i ∷ m ∷ given) files answer within made done = in_one_kept i m out given versions files answer made.0 within.0 done made.1
+kept (InOne image machine out versions inputs) loaded files answer within made done = absurd made
 
 -- stores that stand keep their promise, whatever was answered
 pub stored_keep_promise : (command : Command) (old new : HostState) → StoresStand (wants_of command) (Makes command) old new → Promised (wants_of command) (Promise command) old new

@@ -34,5 +34,5 @@ Makes (Explain image machine loops) (i ∷ m ∷ l ∷ []) answer = Tells (AreEx
 Makes (DrawRun machine out names) (m ∷ given) answer = Tells (DrawsRuns m names given) (stored_answer picture_text out) answer
 Makes (DrawPlan image machine loops out) (i ∷ m ∷ l ∷ []) answer = Tells (DrawsPlan i m l) (stored_answer plan_text out) answer
 Makes (Jumps image out) (i ∷ []) answer = Tells (DraftsJumps i) (stored_answer jumps_text out) answer
-Makes (InOne image machine out inputs) (i ∷ m ∷ given) answer = AreBytes i × MakesInOne i m given out answer
+Makes (InOne image machine out versions inputs) (i ∷ m ∷ given) answer = AreBytes i × MakesInOne i m given versions out answer
 Makes command files answer = ⊥

@@ -10,7 +10,7 @@ pub data Command : Type 0 where
   DrawRun : (machine out : List ℕ) (names : List (List ℕ)) → Command
   DrawPlan : (image machine loops out : List ℕ) → Command
   Jumps : (image out : List ℕ) → Command
-  InOne : (image machine out : List ℕ) (inputs : List (List ℕ)) → Command
+  InOne : (image machine out : List ℕ) (versions : Bool) (inputs : List (List ℕ)) → Command
 
 -- inputs that are loaded, each with its limit in bytes
 abbrev pub input_wants : List (List ℕ) → Wants
@@ -46,7 +46,7 @@ wants_of (Explain image machine loops) = program_wants image machine loops []
 wants_of (DrawRun machine out names) = drawn_wants machine names
 wants_of (DrawPlan image machine loops out) = program_wants image machine loops []
 wants_of (Jumps image out) = image_wants image []
-wants_of (InOne image machine out inputs) = machine_wants image machine (input_wants inputs)
+wants_of (InOne image machine out versions inputs) = machine_wants image machine (input_wants inputs)
 
 -- the statuses that a command gives, but for a fault and want of memory
 abbrev pub may_give : ℕ → Bool
@@ -65,4 +65,4 @@ has_one_status (Explain image machine loops) = true
 has_one_status (DrawRun machine out names) = true
 has_one_status (DrawPlan image machine loops out) = true
 has_one_status (Jumps image out) = true
-has_one_status (InOne image machine out inputs) = false
+has_one_status (InOne image machine out versions inputs) = false

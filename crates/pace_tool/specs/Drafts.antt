@@ -5,6 +5,7 @@ use Rattle.scale_base.specs.Image.{Image, image_of}
 use Rattle.scale_base.specs.Run.{run_of}
 use Rattle.code_text.specs.Text.{text_of}
 use Rattle.flow_graph.specs.FlowGraph.{FlowGraph, IsGraphOf}
+use Rattle.cost_theory.specs.Graph.{with_trips}
 use Rattle.graph_runs.specs.KeptRuns.{most_returns, IsKeptUpTo}
 use Rattle.graph_runs.specs.RunTransitions.{returns_so}
 use Rattle.bound_laws.specs.Turning.{with_bounds}
@@ -40,7 +41,8 @@ pub record AreTakenIn (original : Image) (notes : List LoopNote) : Type 0 where
 
 -- no graph of the image's code refuses the loops of notes
 abbrev pub AreNeverRefused : Image → List LoopNote → Type 0
-AreNeverRefused original notes = (v : FlowGraph) (refusal : Refusal) → IsGraphOf (text_of original) v → IsTreeBuilt v notes (Err refusal) → ⊥
+AreNeverRefused original notes = (v : FlowGraph) (refusal : Refusal) → IsGraphOf (text_of original) v → IsTreeBuilt v notes (Err refusal) →
+    ⊥
 
 -- A loop file of an image with as many loops as its draft has. Its loops are taken where no part of the code turns that is no loop.
 pub record IsLoopFile (original : Image) (draft : LoopDraft) (file : List ℕ) : Type 0 where
@@ -61,7 +63,8 @@ pub record IsFinishedFile (original : Image) (draft : LoopDraft) (file : List �
 
 -- in the first n steps of a run each return goes back to its call, and never are more calls open than a kept run may have
 abbrev pub ReturnsGoBack : Image → (levels : ℕ) (input : List ℕ) (n : ℕ) → Type 0
-ReturnsGoBack original levels input n = (m : ℕ) → m ≤ n → (rs : List ℕ) × (returns_so (run_of original levels input m).steps ≡ Some rs) × (length rs ≤ most_returns)
+ReturnsGoBack original levels input n = (m : ℕ) → m ≤ n → (rs : List ℕ) × (returns_so (run_of original levels input m).steps ≡ Some rs) ×
+    (length rs ≤ most_returns)
 
 -- on every input, for as long as it runs
 abbrev pub AlwaysGoesBack : Image → Type 0
@@ -77,14 +80,19 @@ IsKeptAlways original file =
 abbrev pub IsKeptByReturns : Image → (file : List ℕ) → Type 0
 IsKeptByReturns original file =
     (notes : List LoopNote) → read_loops original file ≡ Ok notes →
-    (levels : ℕ) (input : List ℕ) (n : ℕ) → AreBytes input → ReturnsGoBack original levels input n → IsKeptUpTo original levels input (noted_loops notes) n
+    (levels : ℕ) (input : List ℕ) (n : ℕ) → AreBytes input → ReturnsGoBack original levels input n →
+    IsKeptUpTo original levels input (noted_loops notes) n
 
--- On every input a run that is kept by some bounds is kept by those of notes, where the ones that were written by hand are no less: so no run breaks a bound of the draft before
--- it breaks one of those, or a return address.
+-- On every input a run that is kept by some bounds and least turns is kept by those of notes, where each loop whose bound was written by
+-- hand has one that is no less, and least turns that are no more: so no run breaks a bound or least turns of the draft before it breaks what
+-- was written by hand, or a return address.
 abbrev pub IsKeptByWritten : Image → (drafted notes : List LoopNote) → Type 0
 IsKeptByWritten original drafted notes =
-    (levels : ℕ) (input : List ℕ) (bounds : ℕ → ℕ) (n : ℕ) → AreBytes input → ((k : ℕ) → k < length notes → IsOpen (note_at drafted k) → bounds k ≤ (note_at notes k).bound) →
-    IsKeptUpTo original levels input (with_bounds (noted_loops notes) bounds) n → IsKeptUpTo original levels input (noted_loops notes) n
+    (levels : ℕ) (input : List ℕ) (bounds trips : ℕ → ℕ) (n : ℕ) → AreBytes input →
+    ((k : ℕ) → k < length notes → IsOpen (note_at drafted k) →
+    (bounds k ≤ (note_at notes k).bound) × ((note_at notes k).at_least ≤ trips k)) →
+    IsKeptUpTo original levels input (with_trips (with_bounds (noted_loops notes) bounds) trips) n →
+    IsKeptUpTo original levels input (noted_loops notes) n
 
 -- ---- what the stored file keeps to
 
@@ -103,6 +111,8 @@ pub record IsDraftedSafely (image stored : List ℕ) (draft : LoopDraft) : Type 
   -- and where all bounds are proved as well, every run keeps it, with no premise
   pub premise_free : draft.unbounded ≡ 0 → draft.proved ≡ draft.loops → draft.returns ≡ true → IsKeptAlways original stored
   -- with bounds that are written by hand, its loops are taken where no part of the code turns that is no loop,
-  pub taken : draft.aside ≡ 0 → (file : List ℕ) (notes : List LoopNote) → IsFinishedFile original draft file notes → AreNeverRefused original notes
+  pub taken : draft.aside ≡ 0 → (file : List ℕ) (notes : List LoopNote) → IsFinishedFile original draft file notes →
+      AreNeverRefused original notes
   -- and these are all that a run has to keep
-  pub finished : (file : List ℕ) (notes : List LoopNote) (is : IsFinishedFile original draft file notes) → IsKeptByWritten original is.drafted notes
+  pub finished : (file : List ℕ) (notes : List LoopNote) (is : IsFinishedFile original draft file notes) →
+      IsKeptByWritten original is.drafted notes

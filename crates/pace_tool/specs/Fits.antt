@@ -29,4 +29,5 @@ pub record Fits (image machine loops : List ℕ) (inputs : List (List ℕ)) (pro
 pub record MakesFit (image machine loops : List ℕ) (inputs : List (List ℕ)) (out : List ℕ) (answer : Answer) : Type 0 where
   pub proposals : List Proposal
   pub few : length proposals ≤ 64
-  pub tells : Tells (Fits image machine loops inputs proposals) (stored_answer (fitted_text (endings_on image machine loops inputs) proposals) out) answer
+  pub tells : Tells (Fits image machine loops inputs proposals) (stored_answer
+      (fitted_text (endings_on image machine loops inputs) proposals) out) answer

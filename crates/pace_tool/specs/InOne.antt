@@ -20,7 +20,9 @@ use Rattle.loop_drafts.specs.Pieces.{printed_piece}
 use Rattle.host_runs.specs.Answer.{Answer, refused}
 use Rattle.pace_tool.specs.Fits.{MakesFit}
 use Rattle.pace_tool.specs.Drafts.{Drafts}
-use Rattle.pace_tool.specs.Texts.{drafted_text}
+use Rattle.pace_tool.specs.Texts.{drafted_text, no_version_text, version_text}
+use Rattle.version_fits.specs.declared.choosing.ChosenVersion.{ChosenVersion}
+use Rattle.version_fits.specs.Chosen.{IsChosenVersion}
 
 -- ---- jumps
 
@@ -37,7 +39,8 @@ abbrev pub IsPlainFor : (has : Bool) → (image : List ℕ) → JumpDraft → Re
 IsPlainFor false image jumps (Ok plain) = (plain.0 ≡ image) × (plain.1 ≡ jumps_text jumps)
 IsPlainFor false image jumps (Err refusal) = ⊥
 IsPlainFor true image jumps (Ok plain) =
-    (counts : Lowered) × IsLowered image (string_bytes jumps.file) (Ok ((plain.0, counts))) × (plain.1 ≡ jumps_text jumps ++ lowered_text counts)
+    (counts : Lowered) × IsLowered image (string_bytes jumps.file) (Ok ((plain.0, counts))) ×
+    (plain.1 ≡ jumps_text jumps ++ lowered_text counts)
 IsPlainFor true image jumps (Err refusal) = IsLowered image (string_bytes jumps.file) (Err refusal)
 
 -- the image that goes on, by a draft of its jump file, or the refusal of a draft
@@ -72,20 +75,38 @@ MakesFitted machine out inputs image file text answer =
     ⊎ ((length image ≤ 4194304) × ((fitted : Answer) × MakesFit image machine file inputs out fitted × (answer ≡ behind text fitted)))
 
 -- the answer for an image whose loops are drafted, with what is told up to there
-abbrev pub MakesDrafted : (machine out : List ℕ) (inputs : List (List ℕ)) (image text : List ℕ) → Result (List ℕ × LoopDraft) Refusal → Answer → Type 0
+abbrev pub MakesDrafted : (machine out : List ℕ) (inputs : List (List ℕ)) (image text : List ℕ) → Result (List ℕ × LoopDraft) Refusal →
+    Answer → Type 0
 MakesDrafted machine out inputs image text (Ok given) answer =
     ((0 < given.1.unbounded) × (answer ≡ open_answer (text ++ drafted_text given.1) given.1))
     ⊎ ((given.1.unbounded ≡ 0) × MakesFitted machine out inputs image given.0 (text ++ drafted_text given.1) answer)
 MakesDrafted machine out inputs image text (Err refusal) answer = answer ≡ refused refusal
 
+-- that for the image that is fitted
+abbrev pub MakesOfTried : (machine out : List ℕ) (inputs : List (List ℕ)) (tried text : List ℕ) → Answer → Type 0
+MakesOfTried machine out inputs tried text answer =
+    AreBytes tried × ((drafted : Result (List ℕ × LoopDraft) Refusal) × Drafts tried drafted ×
+    MakesDrafted machine out inputs tried text drafted answer)
+
+-- ---- versions
+
+-- The image that is fitted, with what is told of it: the one that goes on, or, where versions are asked for, one of it in which a loop is there twice and by which a fit takes less.
+abbrev pub IsTried : (machine : List ℕ) (inputs : List (List ℕ)) (versions : Bool) (plain tried text : List ℕ) → Type 0
+IsTried machine inputs false plain tried text = (tried ≡ plain) × (text ≡ [])
+IsTried machine inputs true plain tried text = ((tried ≡ plain) × (text ≡ no_version_text))
+    ⊎ ((chosen : ChosenVersion) × IsChosenVersion plain machine inputs chosen × (tried ≡ chosen.version.file.items) ×
+    (text ≡ version_text chosen))
+
 -- that for an image that goes on
-abbrev pub MakesOfPlain : (machine out : List ℕ) (inputs : List (List ℕ)) → Result (List ℕ × List ℕ) Refusal → Answer → Type 0
-MakesOfPlain machine out inputs (Ok plain) answer =
-    AreBytes plain.0 × ((drafted : Result (List ℕ × LoopDraft) Refusal) × Drafts plain.0 drafted × MakesDrafted machine out inputs plain.0 plain.1 drafted answer)
-MakesOfPlain machine out inputs (Err refusal) answer = answer ≡ refused refusal
+abbrev pub MakesOfPlain : (machine out : List ℕ) (inputs : List (List ℕ)) (versions : Bool) → Result (List ℕ × List ℕ) Refusal → Answer →
+    Type 0
+MakesOfPlain machine out inputs versions (Ok plain) answer =
+    (tried : List ℕ) × (text : List ℕ) × IsTried machine inputs versions plain.0 tried text ×
+    MakesOfTried machine out inputs tried (plain.1 ++ text) answer
+MakesOfPlain machine out inputs versions (Err refusal) answer = answer ≡ refused refusal
 
 -- The answer to `all` with this name of OUT.
-pub record MakesInOne (image machine : List ℕ) (inputs : List (List ℕ)) (out : List ℕ) (answer : Answer) : Type 0 where
+pub record MakesInOne (image machine : List ℕ) (inputs : List (List ℕ)) (versions : Bool) (out : List ℕ) (answer : Answer) : Type 0 where
   pub plain : Result (List ℕ × List ℕ) Refusal
   pub is_plain : MakesPlain image plain
-  pub made : MakesOfPlain machine out inputs plain answer
+  pub made : MakesOfPlain machine out inputs versions plain answer

@@ -1,4 +1,4 @@
--- Which call of a host failed first.
+-- Scaffold: which call of a host failed first.
 use Rattle.std.specs.Prelude.{Bool, true, false, Option, Some, None}
 use Rattle.pace_tool.specs.declared.naming_host.Fault.{Fault}
 

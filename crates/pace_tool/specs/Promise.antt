@@ -1,7 +1,9 @@
 -- What the files that a command has stored promise to whoever runs them.
-use Rattle.std.specs.Prelude.{◌≡◌, ℕ, List, ◌∷◌, Option, Result, Ok}
+use Rattle.std.specs.Prelude.{◌≡◌, ◌⊎◌, ℕ, Bool, true, false, List, ◌∷◌, Option, Result, Ok}
 use Rattle.std.specs.FinMap.{get}
 use Rattle.host_files.specs.HostState.{Files}
+use Rattle.scale_base.specs.Image.{Image, image_of}
+use Rattle.scale_base.specs.Run.{HasExited, run_of}
 use Rattle.scale_base.specs.declared.refusal.Refusal.{Refusal}
 use Rattle.paced_images.specs.declared.proposal.Proposal.{Proposal}
 use Rattle.pace_fit.specs.declared.fitting.Fitted.{Fitted}
@@ -11,6 +13,12 @@ use Rattle.scale_base.specs.declared.summary.Lowered.{Lowered}
 use Rattle.image_lower.specs.Lowered.{IsLowered}
 use Rattle.image_lower.specs.Promise.{IsLoweredSafely}
 use Rattle.loop_drafts.specs.declared.drafted.LoopDraft.{LoopDraft}
+use Rattle.loop_drafts.specs.Kept.{AreBytes}
+use Rattle.loop_versions.specs.declared.pieces.Piece.{Piece}
+use Rattle.loop_versions.specs.declared.pieces.Site.{Site}
+use Rattle.loop_versions.specs.Follows.{FollowsVersioned, StaysOutside}
+use Rattle.loop_versions.specs.Made.{IsVersioned}
+use Rattle.version_laws.specs.Exits.{ExitsAlike}
 use Rattle.pace_tool.specs.Command.{Command, Fit, Loops, InOne}
 use Rattle.pace_tool.specs.InOne.{MakesPlain}
 use Rattle.pace_tool.specs.Drafts.{Drafts, IsDraftedSafely}
@@ -19,19 +27,44 @@ use Rattle.pace_tool.specs.Drafts.{Drafts, IsDraftedSafely}
 abbrev pub FitsAny : (image machine loops : List ℕ) → List (List ℕ) → Result (List ℕ × Fitted) Refusal → Type 0
 FitsAny image machine loops inputs given = (proposals : List Proposal) × Fits image machine loops inputs proposals given
 
--- What `all` promises: OUT has a choice that is fitted to the image that goes on, with the draft of its loops as its loop file. No loop of the draft is open, and it keeps what
--- `loops` promises of it; the choice keeps what `fit` promises of it; and where jumps were lowered, that image follows the one that was loaded, as `lower` promises.
-pub record IsFittedInOne (image machine : List ℕ) (inputs : List (List ℕ)) (out : Option (List ℕ)) : Type 0 where
+-- A file is a versioned image of another one. Where that exits, so does it, with the same status and output; and it follows each run of that which goes to no address of the
+-- pieces, whatever its ending. But for the steps at sites, bridges and guards its steps are of the same classes.
+pub record IsVersionedSafely (plain tried : List ℕ) : Type 0 where
+  pub image : Image
+  pub versioned : Image
+  pub pieces : List Piece
+  pub sites : List Site
+  pub base : ℕ
+  pub is_read : image_of plain ≡ Ok image
+  pub is_versioned : IsVersioned image versioned pieces sites base
+  pub file : versioned.file ≡ tried
+  pub exits : (levels : ℕ) (input : List ℕ) (n status : ℕ) → AreBytes input → (run_of image levels input n).standing ≡ HasExited status →
+      (m : ℕ) × ExitsAlike image versioned pieces sites base status (run_of image levels input n) (run_of versioned levels input m)
+  pub follows : (levels : ℕ) (input : List ℕ) (n : ℕ) → AreBytes input → StaysOutside image versioned pieces sites base levels input n →
+      (m : ℕ) × FollowsVersioned image versioned pieces sites base (run_of image levels input n) (run_of versioned levels input m)
+
+-- the image that is fitted is the one that goes on, or, where versions were asked for, one of it that follows it
+abbrev pub IsTriedSafely : Bool → (plain tried : List ℕ) → Type 0
+IsTriedSafely false plain tried = tried ≡ plain
+IsTriedSafely true plain tried = (tried ≡ plain) ⊎ IsVersionedSafely plain tried
+
+-- What `all` promises: OUT has a choice that is fitted to the image that goes on, or to one of it in which a loop is there twice, with the draft of its loops as its loop file. No
+-- loop of the draft is open, and it keeps what `loops` promises of it; the choice keeps what `fit` promises of it; where jumps were lowered, the image that goes on follows the one
+-- that was loaded, as `lower` promises; and where a loop is there twice, that image follows the one that goes on.
+pub record IsFittedInOne (image machine : List ℕ) (inputs : List (List ℕ)) (versions : Bool) (out : Option (List ℕ)) : Type 0 where
   pub plain : List ℕ
   pub text : List ℕ
   pub is_plain : MakesPlain image (Ok ((plain, text)))
+  pub lowered : (jumps : List ℕ) (counts : Lowered) → IsLowered image jumps (Ok ((plain, counts))) →
+      IsLoweredSafely image jumps plain counts
+  pub tried : List ℕ
+  pub is_tried : IsTriedSafely versions plain tried
   pub file : List ℕ
   pub draft : LoopDraft
-  pub is_drafted : Drafts plain (Ok ((file, draft)))
+  pub is_drafted : Drafts tried (Ok ((file, draft)))
   pub closed : draft.unbounded ≡ 0
-  pub drafted : IsDraftedSafely plain file draft
-  pub lowered : (jumps : List ℕ) (counts : Lowered) → IsLowered image jumps (Ok ((plain, counts))) → IsLoweredSafely image jumps plain counts
-  pub fitted : StoredPromise (FitsAny plain machine file inputs) (IsFittedSafely plain machine file) out
+  pub drafted : IsDraftedSafely tried file draft
+  pub fitted : StoredPromise (FitsAny tried machine file inputs) (IsFittedSafely tried machine file) out
 
 -- What a command promises beside its answer, by the files that it loaded and those that stand afterwards. Of `fit`: on every input on which the original run exits and keeps the
 -- loops' bounds and the return addresses, the stored image gives the same output and the same exit status, ends by the deadline, never raises its level, takes no more energy than
@@ -43,7 +76,8 @@ pub record IsFittedInOne (image machine : List ℕ) (inputs : List (List ℕ)) (
 -- `explain` store nothing, and promise nothing beside their answers. `draw run`,
 -- `draw plan` and `jumps` store files of which their answers say all (`DrawsRuns`, `DrawsPlan`, `DraftsJumps`).
 abbrev pub Promise : Command → List (List ℕ) → Files → Type 0
-Promise (Fit image machine loops out inputs) (i ∷ m ∷ l ∷ given) after = StoredPromise (FitsAny i m l given) (IsFittedSafely i m l) (get after out)
+Promise (Fit image machine loops out inputs) (i ∷ m ∷ l ∷ given) after = StoredPromise (FitsAny i m l given) (IsFittedSafely i m l)
+    (get after out)
 Promise (Loops image out inputs) (i ∷ given) after = StoredPromise (Drafts i) (IsDraftedSafely i) (get after out)
-Promise (InOne image machine out inputs) (i ∷ m ∷ given) after = IsFittedInOne i m given (get after out)
+Promise (InOne image machine out versions inputs) (i ∷ m ∷ given) after = IsFittedInOne i m given versions (get after out)
 Promise command files after = Unit {0}

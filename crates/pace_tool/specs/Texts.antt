@@ -11,6 +11,8 @@ use Rattle.paced_images.specs.declared.proposal.Proposal.{Proposal}
 use Rattle.pace_fit.specs.declared.endings.Ending.{Ending}
 use Rattle.pace_fit.specs.declared.fitting.Fitted.{Fitted}
 use Rattle.pace_fit.specs.Endings.{is_counted}
+use Rattle.versioned_images.specs.declared.versions.Version.{Version}
+use Rattle.version_fits.specs.declared.choosing.ChosenVersion.{ChosenVersion}
 
 -- why an input doesn't count: how the run of the original ended, where that didn't exit, or what it broke
 abbrev pub left_words : End → Option Kept → List ℕ
@@ -72,6 +74,21 @@ fitted_text endings proposals f =
     ++ rewrite_line f.rewrite_energy
     ++ number_line (codes "least energy ") f.least_energy
     ++ switches_text proposals f.candidate
+
+-- the version of a loop: its header and the registers by which its copy runs; below which difference of these, and how many instructions are added
+unfoldable pub guard_words : Version → List ℕ
+guard_words v = codes "version " ++ address v.header ++ codes " where x" ++ decimal v.larger ++ codes " - x" ++ decimal v.smaller
+
+unfoldable pub limit_line : Version → List ℕ
+limit_line v = codes " < " ++ decimal v.limit ++ codes " words " ++ decimal v.words ++ 10 ∷ []
+
+-- that, and the energy that a fit of the program without it takes over the inputs that count, and its image at one level
+abbrev pub version_text : ChosenVersion → List ℕ
+version_text chosen = guard_words chosen.version ++ limit_line chosen.version ++ number_line (codes "plain energy ") chosen.without.energy
+    ++ number_line (codes "plain hold energy ") chosen.without.hold_energy
+
+abbrev pub no_version_text : List ℕ
+no_version_text = codes "no version\n"
 
 -- whether returns are proved to go back
 abbrev pub returns_line : Bool → List ℕ

@@ -1,4 +1,4 @@
--- What is told of what a command gives: its text, and the file that is stored beside it.
+-- Scaffold: what is told of what a command gives: its text, and the file that is stored beside it.
 use Rattle.std.specs.Prelude.{◌≡◌, ℕ, List, Result, Ok, Err, String, string_bytes, Vec}
 use Rattle.std.specs.declared.alloc.Global.{Global}
 use Rattle.host_runs.specs.Answer.{Giving}

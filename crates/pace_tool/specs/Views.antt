@@ -21,7 +21,7 @@ abbrev pub fit_view : ParsedFit → Command
 fit_view fit = Fit fit.program.image.now fit.program.machine.now fit.program.loops.now fit.out.now (texts fit.inputs.names.now)
 
 abbrev pub in_one_view : ParsedInOne → Command
-in_one_view command = InOne command.image.now command.machine.now command.out.now (texts command.inputs.names.now)
+in_one_view command = InOne command.image.now command.machine.now command.out.now command.versions (texts command.inputs.names.now)
 
 abbrev pub command_view : Job → Command
 command_view (job.Fit fit) = fit_view fit

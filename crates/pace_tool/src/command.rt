@@ -56,12 +56,14 @@ pub struct DrawPlan<'a> {
     pub out: &'a str,
 }
 
-/// The command `all`, with the names of its files: it drafts and lowers the jumps of a program, drafts its loops, and stores the image that is fitted to inputs.
+/// The command `all`, with the names of its files: it drafts and lowers the jumps of a program, drafts its loops, and stores the image that is fitted to inputs. With
+/// versions, that may be one in which a loop is there twice.
 #[derive(Clone, Copy)]
 pub struct InOne<'a> {
     pub image: &'a str,
     pub machine: &'a str,
     pub out: &'a str,
+    pub versions: bool,
     pub inputs: InputNames<'a>,
 }
 
@@ -121,7 +123,8 @@ fn want_at<'a>(command: &Job<'a>, number: usize) -> Option<Want<'a>>
 
 // Of a program's files and inputs.
 fn program_want<'a>(program: Program<'a>, inputs: &[&'a str], number: usize) -> Option<Want<'a>>
-    ensures { option_map want_view result ≡ slice_get (program_wants program.entry.image.now program.entry.machine.now program.entry.loops.now (input_wants (texts inputs.now))) number }
+    ensures { option_map want_view result ≡ slice_get (program_wants program.entry.image.now program.entry.machine.now
+        program.entry.loops.now (input_wants (texts inputs.now))) number }
 {
     if number == 0 {
         Some(want(program.image, IMAGE_LIMIT))
@@ -137,7 +140,8 @@ fn tables_want<'a>(
     inputs: &[&'a str],
     number: usize,
 ) -> Option<Want<'a>>
-    ensures { option_map want_view result ≡ slice_get ((machine.now, 1048576) ∷ (loops.now, 1048576) ∷ input_wants (texts inputs.now)) number }
+    ensures { option_map want_view result ≡ slice_get ((machine.now, 1048576) ∷ (loops.now, 1048576) ∷ input_wants (texts inputs.now))
+        number }
 {
     if number == 0 {
         Some(want(machine, TEXT_LIMIT))

@@ -17,7 +17,8 @@ use std::alloc::Global;
 
 // The graph as Graphviz takes it, and what is told of it.
 fn drawn(alloc: Global, files: &ProgramFiles<'_>) -> Result<(Vec<u8>, String), Stop>
-    ensures { AnswersBy written_view result (FileOf (DrawsPlan files.now.image.now files.now.machine.now files.now.loops.now) texts.plan_text) }
+    ensures { AnswersBy written_view result (FileOf (DrawsPlan files.now.image.now files.now.machine.now files.now.loops.now)
+        texts.plan_text) }
 {
     let plan = draw_plan(alloc, files.image, files.machine, files.loops)?;
     let file = plan_dot(alloc, &plan)?;
@@ -31,7 +32,8 @@ pub fn draw_plan_reply(
     out: &str,
     files: &ProgramFiles<'_>,
 ) -> Result<Reply, NoMemory>
-    ensures { IfOk result (λ reply. Tells (DrawsPlan files.now.image.now files.now.machine.now files.now.loops.now) (stored_answer texts.plan_text out.now) (reply_view reply)) }
+    ensures { IfOk result (λ reply. Tells (DrawsPlan files.now.image.now files.now.machine.now files.now.loops.now)
+        (stored_answer texts.plan_text out.now) (reply_view reply)) }
 {
     stored_reply(alloc, out, drawn(alloc, files))
 }

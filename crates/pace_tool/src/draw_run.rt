@@ -26,7 +26,8 @@ fn push_run<'a>(
     image: &'a [u8],
     input: &'a [u8],
 ) -> Result<(), AllocError>
-    ensures { OnOk result (map file_texts runs.new.items ≡ map file_texts runs.old.items ++ (image_name.now, input_name.now, image.now, input.now) ∷ []) }
+    ensures { OnOk result (map file_texts runs.new.items ≡ map file_texts runs.old.items ++
+        (image_name.now, input_name.now, image.now, input.now) ∷ []) }
 {
     runs.push(DrawnFiles {
         image_name,
@@ -43,7 +44,8 @@ fn push_files<'a>(
     names: &[&'a str],
     files: &'a [Vec<u8>],
 ) -> Result<(), AllocError>
-    ensures { OnOk result (map file_texts runs.new.items ≡ map file_texts runs.old.items ++ run_texts (views.texts names.now) (files_view files.now)) }
+    ensures { OnOk result (map file_texts runs.new.items ≡ map file_texts runs.old.items ++ run_texts (views.texts names.now)
+        (files_view files.now)) }
 {
     match names {
         [image_name, input_name, other_names @ ..] => match files {
@@ -80,7 +82,8 @@ pub fn draw_run_reply<P: Progress>(
     files: &[Vec<u8>],
     progress: &mut P,
 ) -> Result<Reply, NoMemory>
-    ensures { IfOk result (λ reply. Tells (DrawsRuns machine.now (views.texts draw.now.names.now) (files_view files.now)) (stored_answer texts.picture_text draw.now.out.now) (reply_view reply)) }
+    ensures { IfOk result (λ reply. Tells (DrawsRuns machine.now (views.texts draw.now.names.now) (files_view files.now))
+        (stored_answer texts.picture_text draw.now.out.now) (reply_view reply)) }
 {
     let mut runs = Vec::new(alloc);
     push_files(&mut runs, draw.names, files)?;

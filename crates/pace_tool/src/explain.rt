@@ -16,7 +16,8 @@ use worst_reports::{explain, explained_text};
 
 // Where the worst cycles go, as a text.
 fn explained(alloc: Global, files: &ProgramFiles<'_>) -> Result<String, Stop>
-    ensures { AnswersBy string_bytes result (TextOf (AreExplained files.now.image.now files.now.machine.now files.now.loops.now) texts.explained_text) }
+    ensures { AnswersBy string_bytes result (TextOf (AreExplained files.now.image.now files.now.machine.now files.now.loops.now)
+        texts.explained_text) }
 {
     let explained = explain(alloc, files.image, files.machine, files.loops)?;
     Ok(explained_text(alloc, &explained)?)
@@ -24,7 +25,8 @@ fn explained(alloc: Global, files: &ProgramFiles<'_>) -> Result<String, Stop>
 
 /// What `explain` gives for its three files.
 pub fn explain_reply(alloc: Global, files: &ProgramFiles<'_>) -> Result<Reply, NoMemory>
-    ensures { IfOk result (λ reply. Tells (AreExplained files.now.image.now files.now.machine.now files.now.loops.now) (text_answer texts.explained_text) (reply_view reply)) }
+    ensures { IfOk result (λ reply. Tells (AreExplained files.now.image.now files.now.machine.now files.now.loops.now)
+        (text_answer texts.explained_text) (reply_view reply)) }
 {
     text_reply(alloc, explained(alloc, files))
 }

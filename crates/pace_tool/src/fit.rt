@@ -13,15 +13,15 @@ ghost use Rattle.pace_tool.specs.Texts as texts;
 ghost use Rattle.pace_tool.specs.Views.{fit_view};
 
 use crate::command::Fit;
-use crate::proposals::proposals_of;
 use crate::texts::fitted_text;
 use gain_tuner::GivenFiles;
 use host_runs::{ProgramFiles, Reply};
-use pace_fit::{Prepared, choose_with_progress, prepare_with_progress};
+use pace_fit::{Prepared, choose, prepare};
 use paced_images::Proposal;
 use run_progress::Progress;
 use scale_base::{NoMemory, Stop};
 use std::alloc::Global;
+use version_fits::proposals_of;
 
 /// The bytes of up to 64 inputs, each within its limit.
 #[derive(Clone, Copy)]
@@ -47,7 +47,8 @@ fn chosen_of<P: Progress>(
     proposals: &[Proposal],
     progress: &mut P,
 ) -> Result<Reply, NoMemory>
-    requires prepared { IsPrepared order.now.files.image.now order.now.files.machine.now order.now.files.loops.now (files_view order.now.inputs.items.now) prepared.now }
+    requires prepared { IsPrepared order.now.files.image.now order.now.files.machine.now order.now.files.loops.now
+        (files_view order.now.inputs.items.now) prepared.now }
     requires proposals { length proposals.now ≤ 64 }
     ensures { let endings = endings_on order.now.files.image.now order.now.files.machine.now order.now.files.loops.now (files_view order.now.inputs.items.now) in
         IfOk result (λ reply. Tells (Fits order.now.files.image.now order.now.files.machine.now order.now.files.loops.now (files_view order.now.inputs.items.now) proposals.now) (stored_answer (texts.fitted_text endings proposals.now) order.now.out.now) (reply_view reply)) }
@@ -58,7 +59,7 @@ fn chosen_of<P: Progress>(
         loops: order.files.loops,
         inputs: order.inputs.items,
     };
-    let given = choose_with_progress(alloc, &program, prepared, proposals, progress)?;
+    let given = choose(alloc, &program, prepared, proposals, progress)?;
     let text = fitted_text(alloc, &prepared.endings, proposals, &given.1)?;
     Reply::of_file(alloc, order.out, given.0, text, 0)
 }
@@ -70,10 +71,18 @@ fn prepared_reply<P: Progress>(
     prepared: &Prepared,
     progress: &mut P,
 ) -> Result<Reply, NoMemory>
-    requires { IsPrepared order.now.files.image.now order.now.files.machine.now order.now.files.loops.now (files_view order.now.inputs.items.now) prepared.now }
-    ensures { IfOk result (λ reply. MakesFit order.now.files.image.now order.now.files.machine.now order.now.files.loops.now (files_view order.now.inputs.items.now) order.now.out.now (reply_view reply)) }
+    requires { IsPrepared order.now.files.image.now order.now.files.machine.now order.now.files.loops.now
+        (files_view order.now.inputs.items.now) prepared.now }
+    ensures { IfOk result (λ reply. MakesFit order.now.files.image.now order.now.files.machine.now order.now.files.loops.now
+        (files_view order.now.inputs.items.now) order.now.out.now (reply_view reply)) }
 {
-    let proposals = proposals_of(alloc, &order.files, &order.inputs, &prepared.endings)?;
+    let program = GivenFiles {
+        image: order.files.image,
+        machine: order.files.machine,
+        loops: order.files.loops,
+        inputs: order.inputs.items,
+    };
+    let proposals = proposals_of(alloc, &program, &prepared.endings, progress)?;
     chosen_of(alloc, order, prepared, &proposals, progress)
 }
 
@@ -85,7 +94,8 @@ pub fn fit_reply<'f, P: Progress>(
     inputs: &Inputs<'f>,
     progress: &mut P,
 ) -> Result<Reply, NoMemory>
-    ensures { IfOk result (λ reply. MakesFit files.now.image.now files.now.machine.now files.now.loops.now (files_view inputs.now.items.now) out.now (reply_view reply)) }
+    ensures { IfOk result (λ reply. MakesFit files.now.image.now files.now.machine.now files.now.loops.now
+        (files_view inputs.now.items.now) out.now (reply_view reply)) }
 {
     let program = GivenFiles {
         image: files.image,
@@ -98,7 +108,7 @@ pub fn fit_reply<'f, P: Progress>(
         inputs: *inputs,
         out,
     };
-    match prepare_with_progress(alloc, &program, progress) {
+    match prepare(alloc, &program, progress) {
         Ok(prepared) => prepared_reply(alloc, &order, &prepared, progress),
         Err(Stop::Refused(refusal)) => Reply::refused(alloc, &refusal),
         Err(Stop::Memory) => Err(NoMemory),

@@ -1,24 +1,26 @@
 //! What `all` gives for its files.
 
-ghost use Rattle.std.specs.Prelude.{◌≡◌, ◌<◌, ◌≤◌, ◌++◌, length, string_bytes, IfOk, OnOk};
+ghost use Rattle.std.specs.Prelude.{◌≡◌, ◌<◌, ◌≤◌, ◌++◌, length, string_bytes, true, IfOk, IfSome, OnOk};
 ghost use Rattle.std.specs.List.{AllZip};
 ghost use Rattle.loop_drafts.specs.Kept.{AreBytes};
 ghost use Rattle.host_runs.specs.Views.{files_view, reply_view};
 ghost use Rattle.pace_tool.specs.Answer.{Makes};
 ghost use Rattle.pace_tool.specs.Command.{wants_of};
 ghost use Rattle.pace_tool.specs.Drafts.{Drafts};
-ghost use Rattle.pace_tool.specs.InOne.{MakesDrafted, MakesFitted, MakesInOne, MakesOfPlain, behind, open_answer, open_pieces};
+ghost use Rattle.pace_tool.specs.InOne.{MakesDrafted, MakesFitted, MakesInOne, MakesOfPlain, MakesOfTried, behind, open_answer, open_pieces};
 ghost use Rattle.pace_tool.specs.Views.{draft_view, in_one_view};
+ghost use Rattle.version_fits.specs.Chosen.{IsChosenVersion};
 
 use crate::command::InOne;
 use crate::fit::{Inputs, fit_reply};
 use crate::plain::plain_image;
-use crate::texts::drafted_text;
+use crate::texts::{drafted_text, version_text};
 use host_runs::{ProgramFiles, Reply};
 use loop_drafts::{LoopDraft, Piece, draft_loops, printed_text};
 use run_progress::Progress;
 use scale_base::{NoMemory, Stop};
 use std::alloc::{AllocError, Global};
+use version_fits::{ChosenVersion, FitGoal, choose_version};
 
 /// So many bytes of an image are loaded.
 const IMAGE_LIMIT: usize = 4_194_304;
@@ -29,6 +31,7 @@ struct Goal<'f, 'n> {
     machine: &'f [u8],
     inputs: Inputs<'f>,
     out: &'n str,
+    versions: bool,
     ghost short: { length machine.now ≤ 1048576 },
 }
 
@@ -84,7 +87,8 @@ fn fitted_reply<P: Progress>(
     progress: &mut P,
 ) -> Result<Reply, NoMemory>
     requires { length file.now ≤ 1048576 }
-    ensures { IfOk result (λ reply. MakesFitted goal.now.machine.now goal.now.out.now (files_view goal.now.inputs.items.now) image.now file.now (string_bytes text) (reply_view reply)) }
+    ensures { IfOk result (λ reply. MakesFitted goal.now.machine.now goal.now.out.now (files_view goal.now.inputs.items.now) image.now
+        file.now (string_bytes text) (reply_view reply)) }
 {
     if image.len() > IMAGE_LIMIT {
         return Reply::too_large(alloc, goal.out);
@@ -108,7 +112,8 @@ fn drafted_reply<P: Progress>(
     progress: &mut P,
 ) -> Result<Reply, NoMemory>
     requires { Drafts image.now (Ok (draft_view draft.now)) }
-    ensures { IfOk result (λ reply. MakesDrafted goal.now.machine.now goal.now.out.now (files_view goal.now.inputs.items.now) image.now (string_bytes text) (Ok (draft_view draft.now)) (reply_view reply)) }
+    ensures { IfOk result (λ reply. MakesDrafted goal.now.machine.now goal.now.out.now (files_view goal.now.inputs.items.now) image.now
+        (string_bytes text) (Ok (draft_view draft.now)) (reply_view reply)) }
 {
     text.push_str(drafted_text(alloc, draft)?.as_str())?;
     if draft.unbounded > 0 {
@@ -116,6 +121,93 @@ fn drafted_reply<P: Progress>(
     }
     let file = printed_text(alloc, &draft.pieces)?;
     fitted_reply(alloc, goal, image, file.as_bytes(), text, progress)
+}
+
+// What is made of the image that is fitted.
+fn tried_reply<P: Progress>(
+    alloc: Global,
+    goal: &Goal<'_, '_>,
+    image: &[u8],
+    text: String,
+    progress: &mut P,
+) -> Result<Reply, NoMemory>
+    ensures { IfOk result (λ reply. MakesOfTried goal.now.machine.now goal.now.out.now (files_view goal.now.inputs.items.now) image.now
+        (string_bytes text) (reply_view reply)) }
+{
+    match draft_loops(alloc, image, goal.inputs.items, progress) {
+        Ok(draft) => drafted_reply(alloc, goal, image, text, &draft, progress),
+        Err(Stop::Refused(refusal)) => Reply::refused(alloc, &refusal),
+        Err(Stop::Memory) => Err(NoMemory),
+    }
+}
+
+// The version of an image that is fitted in its place, if there is one.
+fn version_of<P: Progress>(
+    alloc: Global,
+    goal: &Goal<'_, '_>,
+    image: &[u8],
+    progress: &mut P,
+) -> Result<Option<ChosenVersion>, NoMemory>
+    ensures { IfOk result (λ chosen. IfSome chosen (IsChosenVersion image.now goal.now.machine.now
+        (files_view goal.now.inputs.items.now))) }
+{
+    if image.len() > IMAGE_LIMIT {
+        return Ok(None);
+    }
+    let to = FitGoal {
+        machine: goal.machine,
+        inputs: goal.inputs.items,
+    };
+    choose_version(alloc, &to, image, progress)
+}
+
+// What is made of an image, where versions are asked for and one is chosen.
+fn version_reply<P: Progress>(
+    alloc: Global,
+    goal: &Goal<'_, '_>,
+    image: &[u8],
+    mut text: String,
+    chosen: &ChosenVersion,
+    progress: &mut P,
+) -> Result<Reply, NoMemory>
+    requires { IsChosenVersion image.now goal.now.machine.now (files_view goal.now.inputs.items.now) chosen.now }
+    ensures { IfOk result (λ reply. MakesOfPlain goal.now.machine.now goal.now.out.now (files_view goal.now.inputs.items.now) true
+        (Ok (image.now, string_bytes text)) (reply_view reply)) }
+{
+    text.push_str(version_text(alloc, chosen)?.as_str())?;
+    tried_reply(alloc, goal, &chosen.version.file, text, progress)
+}
+
+// The same, where none is.
+fn unversioned_reply<P: Progress>(
+    alloc: Global,
+    goal: &Goal<'_, '_>,
+    image: &[u8],
+    mut text: String,
+    progress: &mut P,
+) -> Result<Reply, NoMemory>
+    ensures { IfOk result (λ reply. MakesOfPlain goal.now.machine.now goal.now.out.now (files_view goal.now.inputs.items.now) true
+        (Ok (image.now, string_bytes text)) (reply_view reply)) }
+{
+    text.push_str("no version\n")?;
+    tried_reply(alloc, goal, image, text, progress)
+}
+
+// The same, where versions are asked for.
+fn versions_reply<P: Progress>(
+    alloc: Global,
+    goal: &Goal<'_, '_>,
+    image: &[u8],
+    text: String,
+    progress: &mut P,
+) -> Result<Reply, NoMemory>
+    ensures { IfOk result (λ reply. MakesOfPlain goal.now.machine.now goal.now.out.now (files_view goal.now.inputs.items.now) true
+        (Ok (image.now, string_bytes text)) (reply_view reply)) }
+{
+    match version_of(alloc, goal, image, progress)? {
+        Some(chosen) => version_reply(alloc, goal, image, text, &chosen, progress),
+        None => unversioned_reply(alloc, goal, image, text, progress),
+    }
 }
 
 // What is made of the image that goes on.
@@ -126,12 +218,13 @@ fn plain_reply<P: Progress>(
     text: String,
     progress: &mut P,
 ) -> Result<Reply, NoMemory>
-    ensures { IfOk result (λ reply. MakesOfPlain goal.now.machine.now goal.now.out.now (files_view goal.now.inputs.items.now) (Ok (image.now, string_bytes text)) (reply_view reply)) }
+    ensures { IfOk result (λ reply. MakesOfPlain goal.now.machine.now goal.now.out.now (files_view goal.now.inputs.items.now)
+        goal.now.versions (Ok (image.now, string_bytes text)) (reply_view reply)) }
 {
-    match draft_loops(alloc, image, goal.inputs.items, progress) {
-        Ok(draft) => drafted_reply(alloc, goal, image, text, &draft, progress),
-        Err(Stop::Refused(refusal)) => Reply::refused(alloc, &refusal),
-        Err(Stop::Memory) => Err(NoMemory),
+    if goal.versions {
+        versions_reply(alloc, goal, image, text, progress)
+    } else {
+        tried_reply(alloc, goal, image, text, progress)
     }
 }
 
@@ -143,7 +236,8 @@ fn image_reply<P: Progress>(
     progress: &mut P,
 ) -> Result<Reply, NoMemory>
     requires { length image.now ≤ 4194304 }
-    ensures { IfOk result (λ reply. MakesInOne image.now goal.now.machine.now (files_view goal.now.inputs.items.now) goal.now.out.now (reply_view reply)) }
+    ensures { IfOk result (λ reply. MakesInOne image.now goal.now.machine.now (files_view goal.now.inputs.items.now) goal.now.versions
+        goal.now.out.now (reply_view reply)) }
 {
     match plain_image(alloc, image) {
         Ok((plain, text)) => plain_reply(alloc, goal, &plain, text, progress),
@@ -155,7 +249,7 @@ fn image_reply<P: Progress>(
 // What is made of an image of bytes, for a machine and inputs.
 fn goal_reply<P: Progress>(
     alloc: Global,
-    out: &str,
+    command: &InOne<'_>,
     image: &[u8],
     machine: &[u8],
     inputs: &Inputs<'_>,
@@ -164,12 +258,14 @@ fn goal_reply<P: Progress>(
     requires image { length image.now ≤ 4194304 }
     requires machine { length machine.now ≤ 1048576 }
     ensures bytes { AreBytes image.now }
-    ensures told { IfOk result (λ reply. MakesInOne image.now machine.now (files_view inputs.now.items.now) out.now (reply_view reply)) }
+    ensures told { IfOk result (λ reply. MakesInOne image.now machine.now (files_view inputs.now.items.now) command.now.versions
+        command.now.out.now (reply_view reply)) }
 {
     let goal = Goal {
         machine,
         inputs: *inputs,
-        out,
+        out: command.out,
+        versions: command.versions,
     };
     image_reply(alloc, &goal, image, progress)
 }
@@ -186,5 +282,5 @@ pub fn in_one_made<P: Progress>(
 {
     let (first, given) = files.split_at(2);
     let inputs = Inputs { items: given };
-    goal_reply(alloc, command.out, &first[0], &first[1], &inputs, progress)
+    goal_reply(alloc, command, &first[0], &first[1], &inputs, progress)
 }

@@ -17,7 +17,6 @@ mod making;
 mod naming_host;
 mod pace;
 mod plain;
-mod proposals;
 mod replies;
 mod show;
 mod texts;

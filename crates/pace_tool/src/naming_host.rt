@@ -71,7 +71,8 @@ impl<H: Host> Host for NamingHost<H> {
         ensures told { IfSome (H.state self.old.inner).files (λ files. LoadTells (get files name.now) limit result) }
         ensures untouched { IsUntouched (H.state self.old.inner) (H.state self.new.inner) }
         ensures faults { (H.state self.new.inner).faults ≡ count_if (is_failed result) (H.state self.old.inner).faults }
-        ensures steady { IfErr result (λ error. error ≡ HostError.Failed → IsSome (H.state self.old.inner).room → IfSome (H.state self.old.inner).files (λ files. get files name.now ≡ None)) }
+        ensures steady { IfErr result (λ error. error ≡ HostError.Failed → IsSome (H.state self.old.inner).room →
+            IfSome (H.state self.old.inner).files (λ files. get files name.now ≡ None)) }
         ensures first { self.new.fault ≡ first_fault self.old.fault (is_failed result) (Fault.Load self.old.loads) }
         ensures counted { self.new.loads ≡ count_up self.old.loads }
     {
@@ -83,14 +84,17 @@ impl<H: Host> Host for NamingHost<H> {
     }
 
     fn store(&mut self, name: &str, bytes: &[u8]) -> Result<(), HostError>
-        ensures stored { OnOk result ((H.state self.new.inner).files ≡ option_map (λ files. insert files name.now bytes.now) (H.state self.old.inner).files) }
+        ensures stored { OnOk result ((H.state self.new.inner).files ≡ option_map (λ files. insert files name.now bytes.now)
+            (H.state self.old.inner).files) }
         ensures failed { OnErr result (MayHoldAnything name.now (H.state self.old.inner).files (H.state self.new.inner).files) }
         ensures printed { (H.state self.new.inner).printed ≡ (H.state self.old.inner).printed }
         ensures faults { (H.state self.new.inner).faults ≡ count_if (is_err result) (H.state self.old.inner).faults }
         ensures store_faults { (H.state self.new.inner).store_faults ≡ count_if (is_err result) (H.state self.old.inner).store_faults }
         ensures only_failed { IfErr result (λ error. error ≡ HostError.Failed) }
-        ensures steady { IsSome (H.state self.old.inner).room → (IsOk result ↔ HasStoreRoom (H.state self.old.inner).room (length name.now + length bytes.now)) }
-        ensures spent { OnOk result ((H.state self.new.inner).room ≡ option_map (store_spent (length name.now + length bytes.now)) (H.state self.old.inner).room) }
+        ensures steady { IsSome (H.state self.old.inner).room → (IsOk result ↔ HasStoreRoom (H.state self.old.inner).room
+            (length name.now + length bytes.now)) }
+        ensures spent { OnOk result ((H.state self.new.inner).room ≡ option_map (store_spent (length name.now + length bytes.now))
+            (H.state self.old.inner).room) }
         ensures unspent { OnErr result ((H.state self.new.inner).room ≡ (H.state self.old.inner).room) }
         ensures first { self.new.fault ≡ first_fault self.old.fault (is_err result) Fault.Store }
     {
@@ -100,14 +104,17 @@ impl<H: Host> Host for NamingHost<H> {
     }
 
     fn print(&mut self, bytes: &[u8]) -> Result<(), HostError>
-        ensures printed { OnOk result ((H.state self.new.inner).printed ≡ option_map (λ printed. printed ++ bytes.now) (H.state self.old.inner).printed) }
+        ensures printed { OnOk result ((H.state self.new.inner).printed ≡ option_map (λ printed. printed ++ bytes.now)
+            (H.state self.old.inner).printed) }
         ensures failed { OnErr result (PrintsPrefix bytes.now (H.state self.old.inner).printed (H.state self.new.inner).printed) }
         ensures files { (H.state self.new.inner).files ≡ (H.state self.old.inner).files }
         ensures faults { (H.state self.new.inner).faults ≡ count_if (is_err result) (H.state self.old.inner).faults }
         ensures store_faults { (H.state self.new.inner).store_faults ≡ (H.state self.old.inner).store_faults }
         ensures only_failed { IfErr result (λ error. error ≡ HostError.Failed) }
-        ensures steady { IsSome (H.state self.old.inner).room → (IsOk result ↔ HasPrintRoom (H.state self.old.inner).room (length bytes.now)) }
-        ensures spent { OnOk result ((H.state self.new.inner).room ≡ option_map (print_spent (length bytes.now)) (H.state self.old.inner).room) }
+        ensures steady { IsSome (H.state self.old.inner).room → (IsOk result ↔ HasPrintRoom (H.state self.old.inner).room
+            (length bytes.now)) }
+        ensures spent { OnOk result ((H.state self.new.inner).room ≡ option_map (print_spent (length bytes.now))
+            (H.state self.old.inner).room) }
         ensures unspent { OnErr result ((H.state self.new.inner).room ≡ (H.state self.old.inner).room) }
         ensures first { self.new.fault ≡ first_fault self.old.fault (is_err result) Fault.Print }
     {

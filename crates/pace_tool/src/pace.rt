@@ -26,11 +26,13 @@ fn reply_to<H: Host, P: Progress>(
     command: &Job<'_>,
     progress: &mut P,
 ) -> Result<Reply, HostError>
-    ensures told { IfOk result (λ reply. IfSome (H.state host.old).files (λ files. IsAnswerOf (wants_of (command_view command.now)) (Makes (command_view command.now)) files (reply_view reply))) }
+    ensures told { IfOk result (λ reply. IfSome (H.state host.old).files (λ files. IsAnswerOf (wants_of (command_view command.now))
+        (Makes (command_view command.now)) files (reply_view reply))) }
     ensures status { IfOk result (λ reply. IsTrue (may_give reply.status)) }
     ensures untouched { IsUntouched (H.state host.old) (H.state host.new) }
     ensures faults { (H.state host.new).faults ≡ count_if (is_failed result) (H.state host.old).faults }
-    ensures steady { IfErr result (λ error. error ≡ HostError.Failed → IsSome (H.state host.old).room → IfSome (H.state host.old).files (λ files. loading_of (wants_of (command_view command.now)) files ≡ Missing)) }
+    ensures steady { IfErr result (λ error. error ≡ HostError.Failed → IsSome (H.state host.old).room →
+        IfSome (H.state host.old).files (λ files. loading_of (wants_of (command_view command.now)) files ≡ Missing)) }
 {
     let wants = wants(alloc, command)?;
     match load_all(host, alloc, &wants) {
@@ -48,7 +50,8 @@ fn run<H: Host, P: Progress>(
     progress: &mut P,
 ) -> Result<u8, HostError>
     ensures status { IfOk result (λ status. IsTrue (may_give status)) }
-    ensures ends { Ends (wants_of (command_view command.now)) (Makes (command_view command.now)) result (H.state host.old) (H.state host.new) }
+    ensures ends { Ends (wants_of (command_view command.now)) (Makes (command_view command.now)) result (H.state host.old)
+        (H.state host.new) }
     ensures faults { (H.state host.new).faults ≡ count_if (is_failed result) (H.state host.old).faults }
 {
     let reply = reply_to(host, alloc, command, progress);
@@ -75,14 +78,17 @@ pub fn run_pace_with_progress<H: Host, P: Progress>(
     ensures statuses { IsTrue (may_answer result) }
 
     // Any status but 3 and 4: the command's whole answer over the files that are told.
-    ensures answered { result ≢ 3 → result ≢ 4 → IsAnswered (wants_of (command_view command.now)) (Makes (command_view command.now)) result (H.state host.old) (H.state host.new) }
+    ensures answered { result ≢ 3 → result ≢ 4 → IsAnswered (wants_of (command_view command.now)) (Makes (command_view command.now)) result
+        (H.state host.old) (H.state host.new) }
 
     // All answers that are right for the files have one status, the one that was given: 1 where the files are refused, and else 0. This isn't said of `loops` and `all`,
     // since which loops a draft has, and what it writes of them, is left open.
-    ensures complete { IsTrue (has_one_status (command_view command.now)) → result ≢ 3 → result ≢ 4 → IsStatusOfAll (wants_of (command_view command.now)) (Makes (command_view command.now)) result (H.state host.old) }
+    ensures complete { IsTrue (has_one_status (command_view command.now)) → result ≢ 3 → result ≢ 4 →
+        IsStatusOfAll (wants_of (command_view command.now)) (Makes (command_view command.now)) result (H.state host.old) }
 
     // What was done keeps the command's promise.
-    ensures promise { result ≡ 0 → Promised (wants_of (command_view command.now)) (Promise (command_view command.now)) (H.state host.old) (H.state host.new) }
+    ensures promise { result ≡ 0 → Promised (wants_of (command_view command.now)) (Promise (command_view command.now)) (H.state host.old)
+        (H.state host.new) }
 
     // So do the stores of an answer that is no refusal, wherever all of them stand, as where only the print behind them failed.
     ensures promise_behind_a_fault { StoresStand (wants_of (command_view command.now)) (Makes (command_view command.now)) (H.state host.old) (H.state host.new) →
@@ -91,7 +97,8 @@ pub fn run_pace_with_progress<H: Host, P: Progress>(
     // 3 only where the host failed, and never over a steady host that has what it takes.
     ensures fault { result ≡ 3 → Rose (H.state host.old).faults (H.state host.new).faults }
     ensures no_fault { result ≢ 3 → (H.state host.new).faults ≡ (H.state host.old).faults }
-    ensures fault_leaves { result ≡ 3 → StopsWithin (wants_of (command_view command.now)) (Makes (command_view command.now)) (H.state host.old) (H.state host.new) }
+    ensures fault_leaves { result ≡ 3 → StopsWithin (wants_of (command_view command.now)) (Makes (command_view command.now))
+        (H.state host.old) (H.state host.new) }
     ensures ready { IsReadyFor (wants_of (command_view command.now)) (Makes (command_view command.now)) (H.state host.old) → result ≢ 3 }
 
     // 4: nothing has happened.
@@ -113,14 +120,17 @@ pub fn run_pace<H: Host>(host: &mut H, alloc: Global, command: &Job<'_>) -> u8
     ensures statuses { IsTrue (may_answer result) }
 
     // Any status but 3 and 4: the command's whole answer over the files that are told.
-    ensures answered { result ≢ 3 → result ≢ 4 → IsAnswered (wants_of (command_view command.now)) (Makes (command_view command.now)) result (H.state host.old) (H.state host.new) }
+    ensures answered { result ≢ 3 → result ≢ 4 → IsAnswered (wants_of (command_view command.now)) (Makes (command_view command.now)) result
+        (H.state host.old) (H.state host.new) }
 
     // All answers that are right for the files have one status, the one that was given: 1 where the files are refused, and else 0. This isn't said of `loops` and `all`,
     // since which loops a draft has, and what it writes of them, is left open.
-    ensures complete { IsTrue (has_one_status (command_view command.now)) → result ≢ 3 → result ≢ 4 → IsStatusOfAll (wants_of (command_view command.now)) (Makes (command_view command.now)) result (H.state host.old) }
+    ensures complete { IsTrue (has_one_status (command_view command.now)) → result ≢ 3 → result ≢ 4 →
+        IsStatusOfAll (wants_of (command_view command.now)) (Makes (command_view command.now)) result (H.state host.old) }
 
     // What was done keeps the command's promise.
-    ensures promise { result ≡ 0 → Promised (wants_of (command_view command.now)) (Promise (command_view command.now)) (H.state host.old) (H.state host.new) }
+    ensures promise { result ≡ 0 → Promised (wants_of (command_view command.now)) (Promise (command_view command.now)) (H.state host.old)
+        (H.state host.new) }
 
     // So do the stores of an answer that is no refusal, wherever all of them stand, as where only the print behind them failed.
     ensures promise_behind_a_fault { StoresStand (wants_of (command_view command.now)) (Makes (command_view command.now)) (H.state host.old) (H.state host.new) →
@@ -129,7 +139,8 @@ pub fn run_pace<H: Host>(host: &mut H, alloc: Global, command: &Job<'_>) -> u8
     // 3 only where the host failed, and never over a steady host that has what it takes.
     ensures fault { result ≡ 3 → Rose (H.state host.old).faults (H.state host.new).faults }
     ensures no_fault { result ≢ 3 → (H.state host.new).faults ≡ (H.state host.old).faults }
-    ensures fault_leaves { result ≡ 3 → StopsWithin (wants_of (command_view command.now)) (Makes (command_view command.now)) (H.state host.old) (H.state host.new) }
+    ensures fault_leaves { result ≡ 3 → StopsWithin (wants_of (command_view command.now)) (Makes (command_view command.now))
+        (H.state host.old) (H.state host.new) }
     ensures ready { IsReadyFor (wants_of (command_view command.now)) (Makes (command_view command.now)) (H.state host.old) → result ≢ 3 }
 
     // 4: nothing has happened.

@@ -16,7 +16,8 @@ use std::alloc::Global;
 
 // The reasons as a text.
 fn shown(alloc: Global, files: &ProgramFiles<'_>) -> Result<String, Stop>
-    ensures { AnswersBy string_bytes result (TextOf (AreReasons files.now.image.now files.now.machine.now files.now.loops.now) texts.reasons_text) }
+    ensures { AnswersBy string_bytes result (TextOf (AreReasons files.now.image.now files.now.machine.now files.now.loops.now)
+        texts.reasons_text) }
 {
     let shown = reasons(alloc, files.image, files.machine, files.loops)?;
     Ok(reasons_text(alloc, &shown)?)
@@ -24,7 +25,8 @@ fn shown(alloc: Global, files: &ProgramFiles<'_>) -> Result<String, Stop>
 
 /// What `show` gives for its three files.
 pub fn show_reply(alloc: Global, files: &ProgramFiles<'_>) -> Result<Reply, NoMemory>
-    ensures { IfOk result (λ reply. Tells (AreReasons files.now.image.now files.now.machine.now files.now.loops.now) (text_answer texts.reasons_text) (reply_view reply)) }
+    ensures { IfOk result (λ reply. Tells (AreReasons files.now.image.now files.now.machine.now files.now.loops.now)
+        (text_answer texts.reasons_text) (reply_view reply)) }
 {
     text_reply(alloc, shown(alloc, files))
 }

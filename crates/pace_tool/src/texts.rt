@@ -2,7 +2,7 @@
 
 ghost use Rattle.std.specs.Prelude.{◌≡◌, ◌+◌, ◌++◌, ◌≤◌, length, IfOk, OnOk, Some, string_bytes};
 ghost use Rattle.scale_report.specs.Texts.{number_line, numbered_lines};
-ghost use Rattle.pace_tool.specs.Texts.{drafted_text, fitted_text, form_name, left_line, left_line_if, proposal_lines, returns_line, rewrite_line, switch_line, switch_lines, switches_text, tally_line, tally_lines};
+ghost use Rattle.pace_tool.specs.Texts.{drafted_text, fitted_text, form_name, left_line, left_line_if, proposal_lines, returns_line, rewrite_line, switch_line, switch_lines, switches_text, tally_line, tally_lines, guard_words, limit_line, version_text};
 
 use loop_drafts::LoopDraft;
 use pace_fit::{Ending, Fitted, is_counted};
@@ -12,6 +12,8 @@ use scale_report::{Address, EndWords, KeptWords, kind_name, summary_text};
 use std::alloc::{AllocError, Global};
 use std::fmt;
 use std::fmt::Write;
+use version_fits::ChosenVersion;
+use versioned_images::Version;
 
 /// Why an input doesn't count: how its run ended, where that didn't exit, or what it broke.
 #[derive(Clone, Copy)]
@@ -96,6 +98,39 @@ fn push_rewrite(text: &mut String, energy: Option<u128>) -> Result<(), AllocErro
         Some(energy) => push_number(text, "rewrite energy ", energy),
         None => text.push_str("rewrite energy none\n"),
     }
+}
+
+// Adds where the loop of a version is, and by which registers its copy runs.
+#[tactic(auto, unfolding(crate::specs::Texts::guard_words))]
+fn push_guard(text: &mut String, version: &Version) -> Result<(), AllocError>
+    ensures { OnOk result (string_bytes text.new ≡ string_bytes text.old ++ guard_words version.now) }
+{
+    let at = Address(version.header);
+    let larger = version.larger;
+    let smaller = version.smaller;
+    write!(text, "version {at} where x{larger} - x{smaller}")
+}
+
+// Adds below which limit it runs, and how many instructions are added.
+#[tactic(auto, unfolding(crate::specs::Texts::limit_line))]
+fn push_limit(text: &mut String, version: &Version) -> Result<(), AllocError>
+    ensures { OnOk result (string_bytes text.new ≡ string_bytes text.old ++ limit_line version.now) }
+{
+    let limit = version.limit;
+    let words = version.words;
+    write!(text, " < {limit} words {words}\n")
+}
+
+/// What is told of the version that is chosen.
+pub fn version_text(alloc: Global, chosen: &ChosenVersion) -> Result<String, NoMemory>
+    ensures { IfOk result (λ text. string_bytes text ≡ version_text chosen.now) }
+{
+    let mut text = String::new(alloc);
+    push_guard(&mut text, &chosen.version)?;
+    push_limit(&mut text, &chosen.version)?;
+    push_number(&mut text, "plain energy ", chosen.without.energy)?;
+    push_number(&mut text, "plain hold energy ", chosen.without.hold_energy)?;
+    Ok(text)
 }
 
 // The form of a switch.

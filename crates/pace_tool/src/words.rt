@@ -144,7 +144,13 @@ fn all_line<'a>(alloc: Global) -> Result<CommandLine<'a>, AllocError> {
     )?
     .arg(machine(alloc))?
     .arg(required(alloc, "OUT", "The name of the image that is stored"))?
-    .arg(inputs(alloc, "Up to 64 inputs that the program is fitted to"))
+    .arg(inputs(alloc, "Up to 64 inputs that the program is fitted to"))?
+    .arg(
+        Arg::new(alloc, "versions")
+            .long("versions")
+            .action(ArgAction::SetTrue)
+            .help("Also tries images in which a loop is there twice, for few turns and for many"),
+    )
 }
 
 fn command_line<'a>(alloc: Global) -> Result<CommandLine<'a>, AllocError> {
@@ -234,6 +240,7 @@ fn in_one_of<'m>(given: &'m ArgMatches<'_>) -> Option<InOne<'m>> {
         image: given.get_str("IMAGE")?,
         machine: given.get_str("MACHINE")?,
         out: given.get_str("OUT")?,
+        versions: given.get_flag("versions"),
         inputs: inputs_of(given)?,
     })
 }

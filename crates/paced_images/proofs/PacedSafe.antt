@@ -17,11 +17,12 @@ use Rattle.loop_file.specs.Loops.{read_loops}
 use Rattle.stub_writer.specs.Stubs.{out_of_reach, block_bytes, patches_from}
 use Rattle.rewritten_runs.specs.Stubs.{rewritten_file}
 use Rattle.rewritten_runs.specs.Promise.{KeepsThePromise}
-use Rattle.answer_parts.specs.Parts.{unscaled}
+use Rattle.program_sources.specs.Sources.{sources_of}
+use Rattle.program_sources.proofs.Laws.{no_key, sources_parts, then_ok}
 use Rattle.marked_images.specs.Stored.{rewritten_summary}
 use Rattle.rewritten_runs.specs.FilePromise.{FilesKeepThePromise}
 use Rattle.marked_images.specs.Promise.{IsStoredSafely}
-use Rattle.marked_images.proofs.Laws.{file_is, found_in_time, is_unscaled, near_of, read_again, then_ok, IsMade}
+use Rattle.marked_images.proofs.Laws.{file_is, found_in_time, near_of, read_again, IsMade}
 use Rattle.paced_images.specs.declared.wanted.SwitchSite.{SwitchSite}
 use Rattle.paced_images.specs.Paced.{IsPaced, IsPacedProgram, IsProgramPaced, paced_rule}
 use Rattle.paced_images.specs.Wanted.{notes_by, marked_at, wanted_of}
@@ -52,19 +53,17 @@ record WentThrough (image machine loops : List ℕ) (wanted : List SwitchSite) (
 went_through : (image machine loops : List ℕ) (wanted : List SwitchSite) (counted : Bool) (tallied : List ℕ) (share : ℕ) (given : List ℕ × Summary) → IsPaced image machine loops wanted counted tallied share (Ok given) → WentThrough image machine loops wanted counted tallied share given
 unfolding IsPaced
 went_through image machine loops wanted counted tallied share given h =
-    let a = then_ok (read_machine machine) _ given h in
-    let b = then_ok (image_of image) _ given a.2 in
-    let c = then_ok (unscaled b.0.keyed_segment) _ given b.2 in
-    let d = then_ok (read_loops b.0 loops) _ given c.2 in
+    let read = then_ok (sources_of image machine loops) _ given h in
+    let s = sources_parts image machine loops read.0 read.1 in
     record {
-      power = a.0;
-      original = b.0;
-      notes = d.0;
-      power_is = a.1;
-      original_is = b.1;
-      no_key = is_unscaled b.0.keyed_segment c.1;
-      notes_are = d.1;
-      program = paced_program a.0 b.0 (notes_by counted tallied d.0) wanted tallied share given d.2;
+      power = read.0.power;
+      original = read.0.view;
+      notes = read.0.notes;
+      power_is = s.power_is;
+      original_is = s.view_is;
+      no_key = no_key read.0.view.keyed_segment s.unscaled;
+      notes_are = s.notes_are;
+      program = paced_program read.0.power read.0.view (notes_by counted tallied read.0.notes) wanted tallied share given read.2;
     }
 
 -- ---- the law

@@ -12,6 +12,8 @@ use Rattle.rewritten_runs.specs.Stubs.{rewritten_file as stored_bytes}
 use Rattle.marked_images.specs.declared.scaling.Program.{Program}
 use Rattle.marked_images.specs.Stored.{IsStubbedProgram}
 use Rattle.marked_images.proofs.Laws.{stubbed_of}
+use Rattle.program_sources.specs.declared.reading.Sources.{Sources}
+use Rattle.program_sources.proofs.Laws.{sources_are}
 use Rattle.paced_images.specs.declared.wanted.SwitchSite.{SwitchSite}
 use Rattle.paced_images.specs.Paced.{IsPaced, IsPacedProgram, paced_rule}
 use Rattle.paced_images.specs.Programs.{IsProgramFrom}
@@ -44,5 +46,7 @@ files_given image machine loops sites counted tallied share p bytes h e =
     let v = p.marked.graph in
     let t = p.marked.tree in
     let notes = notes_by counted tallied h.notes in
-    files_answer image machine loops sites counted tallied share p.power p.view h.notes (Ok ((bytes, p.scaling.summary))) h.power_is h.view_is h.unscaled h.notes_are
+    let s : Sources = record { power = p.power; view = p.view; notes = h.notes } in
+    let are = sources_are image machine loops s (record { power_is = h.power_is; view_is = h.view_is; unscaled = h.unscaled; notes_are = h.notes_are }) in
+    files_answer image machine loops sites counted tallied share s (Ok ((bytes, p.scaling.summary))) are
     (paced_with p.power p.view notes sites tallied share v t (Ok ((bytes, p.scaling.summary))) (stubbed_of p.power p.view notes v t (wanted_of v t sites tallied) (paced_rule p.power share) p.scaling bytes h.scaled e))

@@ -1,4 +1,4 @@
--- The wanted edges and the tallied counters, as lists of flags.
+-- Scaffold: the wanted edges and the tallied counters, as lists of flags.
 use Rattle.std.specs.Prelude.{◌≡◌, ℕ, ◌<◌, nat_lt, ◌&&◌, ◌||◌, Bool, List, length, map, slice_get, Some}
 use Rattle.flow_graph.specs.FlowGraph.{FlowGraph}
 use Rattle.loop_forest.specs.Tree.{LoopView}

@@ -7,13 +7,11 @@ use Rattle.std.specs.Prelude.{◌≡◌, ◌⊎◌, ℕ, ◌+◌, ◌-◌, ◌*�
 use Rattle.scale_base.specs.declared.refusal.Refusal.{Refusal}
 use Rattle.scale_base.specs.declared.refusal.Refusal.TheVariants.{DeadlineMissed, TooLong}
 use Rattle.scale_base.specs.declared.summary.Summary.{Summary}
-use Rattle.scale_base.specs.Image.{Image, image_of}
+use Rattle.scale_base.specs.Image.{Image}
 use Rattle.power_model.specs.Numbers.{PowerModel}
 use Rattle.power_model.specs.Price.{time_at}
 use Rattle.power_model.specs.Slowest.{slowest_of, fastest}
-use Rattle.machine_file.specs.Machine.{read_machine}
 use Rattle.loop_file.specs.declared.notes.LoopNote.{LoopNote}
-use Rattle.loop_file.specs.Loops.{read_loops}
 use Rattle.cost_theory.specs.Worst.{Numbers}
 use Rattle.cycle_laws.specs.Charged.{Charged}
 use Rattle.flow_graph.specs.FlowGraph.{FlowGraph}
@@ -22,7 +20,8 @@ use Rattle.level_tables.specs.Tables.{EdgeNumbers}
 use Rattle.level_tables.specs.Budgets.{meets_in_budget}
 use Rattle.stub_writer.specs.Stubs.{Site, out_of_reach}
 use Rattle.rewritten_runs.specs.Stubs.{IsWeighedWith, HasStubsWith, rewritten_file}
-use Rattle.answer_parts.specs.Parts.{Then, unscaled}
+use Rattle.answer_parts.specs.Parts.{Then}
+use Rattle.program_sources.specs.Sources.{sources_of}
 use Rattle.marked_images.specs.Refused.{IsCodeRefused, IsLoopRefused, IsCounterRefused}
 use Rattle.marked_images.specs.Stored.{BudgetRule, rewritten_summary, unless_out_of_reach}
 use Rattle.paced_images.specs.declared.wanted.SwitchSite.{SwitchSite}
@@ -80,22 +79,26 @@ pub record IsProgramPaced (power : PowerModel) (image : Image) (notes : List Loo
   pub weighed : IsWeighedWith power image notes code tree (marked_at code tree wanted tallied) stored
   pub short : stored.worst 0 ≤ 281474976710656
   pub slow : slowest_of power (stored.worst 0) ≡ Some start
-  pub stubs : HasStubsWith power (paced_test power start (stored.worst 0) share) image code tree (marked_at code tree wanted tallied) stored extra least sites base
-  pub answer_is : answer ≡ unless_out_of_reach (out_of_reach base sites)
-      (rewritten_file image sites base start, rewritten_summary power code (marked_at code tree wanted tallied) start (stored.worst 0) (extra.worst 0) sites)
+  pub stubs : HasStubsWith power (paced_test power start (stored.worst 0) share) image code tree (marked_at code tree wanted tallied)
+      stored extra least sites base
+  pub answer_is : answer ≡ unless_out_of_reach (out_of_reach base sites) (
+    rewritten_file image sites base start,
+    rewritten_summary power code (marked_at code tree wanted tallied) start (stored.worst 0)
+        (extra.worst 0) sites,
+  )
 
-abbrev pub IsPacedProgram : PowerModel → Image → List LoopNote → List SwitchSite → (tallied : List ℕ) (share : ℕ) → Result (List ℕ × Summary) Refusal → Type 0
+abbrev pub IsPacedProgram : PowerModel → Image → List LoopNote → List SwitchSite → (tallied : List ℕ) (share : ℕ) →
+    Result (List ℕ × Summary) Refusal → Type 0
 IsPacedProgram power image notes wanted tallied share answer =
     IsCodeRefused image answer ⊎ (IsLoopRefused image notes answer ⊎ (IsCounterRefused image notes answer
-    ⊎ (IsTooLong power image notes wanted tallied answer ⊎ (IsTooLate power image notes wanted tallied answer ⊎ IsProgramPaced power image notes wanted tallied share answer))))
+    ⊎ (IsTooLong power image notes wanted tallied answer ⊎ (IsTooLate power image notes wanted tallied answer ⊎
+    IsProgramPaced power image notes wanted tallied share answer))))
 
 -- ---- what the files give
 
 -- The stored bytes and the summary, or the first refusal, in the order of what `rewrite` gives. Tallied loops are counted, and the others as the loop file notes, or none of them.
-unfoldable pub IsPaced : (image machine loop_file : List ℕ) (wanted : List SwitchSite) (counted : Bool) (tallied : List ℕ) (share : ℕ) → Result (List ℕ × Summary) Refusal → Type 0
+unfoldable pub IsPaced : (image machine loop_file : List ℕ) (wanted : List SwitchSite) (counted : Bool) (tallied : List ℕ) (share : ℕ) →
+    Result (List ℕ × Summary) Refusal → Type 0
 IsPaced image machine loop_file wanted counted tallied share answer =
-    Then (read_machine machine) (λ power.
-    Then (image_of image) (λ original.
-    Then (unscaled original.keyed_segment) (λ _.
-    Then (read_loops original loop_file) (λ notes.
-    IsPacedProgram power original (notes_by counted tallied notes) wanted tallied share)))) answer
+    Then (sources_of image machine loop_file) (λ s. IsPacedProgram s.power s.view (notes_by counted tallied s.notes) wanted tallied share)
+    answer

@@ -47,8 +47,11 @@ fn shared(time: u64, share: u8) -> u64
 /// The marking with these budgets in place of the deadline of each level.
 pub fn budgeted(power: &Power, marking: Marking, start: u8, share: u8) -> Marking
     requires share { share ≤ 4 }
-    requires found { (image : Image) × (v : FlowGraph) × (t : LoopView) × (wanted : Wanted) × IsMarkingFound power.now image v t wanted (by_deadline power.now) (Ok ((marking, start))) }
-    ensures { (image : Image) (v : FlowGraph) (t : LoopView) (wanted : Wanted) → IsMarkingFound power.now image v t wanted (by_deadline power.now) (Ok ((marking, start))) → IsMarkingFound power.now image v t wanted (paced_rule power.now share) (Ok ((result, start))) }
+    requires found { (image : Image) × (v : FlowGraph) × (t : LoopView) × (wanted : Wanted) ×
+        IsMarkingFound power.now image v t wanted (by_deadline power.now) (Ok ((marking, start))) }
+    ensures { (image : Image) (v : FlowGraph) (t : LoopView) (wanted : Wanted) →
+        IsMarkingFound power.now image v t wanted (by_deadline power.now) (Ok ((marking, start))) →
+        IsMarkingFound power.now image v t wanted (paced_rule power.now share) (Ok ((result, start))) }
 {
     let budgets = budgets_of(power, start, marking.worst.total(), share);
     let mut marking = marking;

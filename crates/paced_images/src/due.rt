@@ -36,7 +36,8 @@ fn comes_due(
     told: &Told,
 ) -> bool
     requires { IfSome told.now.least (λ z. z < 2 ^ 90) }
-    ensures { result ≡ useful.comes_due power.now (meets_in_budget power.now (budget_at budgets.now)) start bound iteration (told_view told.now) }
+    ensures { result ≡ useful.comes_due power.now (meets_in_budget power.now (budget_at budgets.now)) start bound iteration
+        (told_view told.now) }
 {
     let from = tally_from_within(
         power, budgets, bound, iteration, told.slack, told.left, told.least,

@@ -24,7 +24,8 @@ fn pace_files(
 ) -> Result<(Vec<u8>, Summary), Stop>
     requires image { length image.now ≤ 4194304 }
     requires share { share ≤ 4 }
-    ensures { AnswersBy (λ given. (given.0.items, given.1)) result (IsPaced image.now machine.now loops.now sites.now counted tallied.now share) }
+    ensures { AnswersBy (λ given. (given.0.items, given.1)) result (IsPaced image.now machine.now loops.now sites.now counted tallied.now
+        share) }
 {
     let program = program_of(alloc, image, machine, loops, sites, counted, tallied, share)?;
     let bytes = stored_file(alloc, &program.view, &program.scaling)?;
@@ -63,7 +64,8 @@ pub fn pace(
     requires machine { length machine.now ≤ 1048576 }
     requires loops { length loops.now ≤ 1048576 }
     requires share { share ≤ 4 }
-    ensures given { AnswersBy (λ given. (given.0.items, given.1)) result (IsPaced image.now machine.now loops.now sites.now counted tallied.now share) }
+    ensures given { AnswersBy (λ given. (given.0.items, given.1)) result (IsPaced image.now machine.now loops.now sites.now counted
+        tallied.now share) }
 
     // On each input on which the original run exits and is kept, by the files' own notes, the stored run keeps the promise.
     ensures safe { IfOk result (λ given. IsStoredSafely image.now machine.now loops.now given.0.items given.1) }

@@ -7,11 +7,8 @@ ghost use Rattle.paced_images.specs.Programs.{IsProgramFound};
 use crate::marks::marked_of;
 use crate::noted::notes_by;
 use crate::wanted::SwitchSite;
-use answer_parts::check_unscaled;
-use elf_view::read_image;
-use loop_file::read_loops;
-use machine_file::read_machine;
 use marked_images::{Program, scaling_of};
+use program_sources::Sources;
 use scale_base::Stop;
 use std::alloc::Global;
 
@@ -29,11 +26,10 @@ pub fn program_of<'a>(
     requires { share ≤ 4 }
     ensures { AnswersBy (λ p. p) result (IsProgramFound image.now machine.now loops.now sites.now counted tallied.now share) }
 {
-    let power = read_machine(alloc, machine)?;
-    let view = read_image(alloc, image)?;
-    check_unscaled(view.keyed())?;
-    let noted = read_loops(alloc, loops, &view)?;
-    let notes = notes_by(alloc, &noted, counted, tallied)?;
+    let sources = Sources::read(alloc, image, machine, loops)?;
+    let power = sources.power;
+    let view = sources.view;
+    let notes = notes_by(alloc, &sources.notes, counted, tallied)?;
     let marked = marked_of(alloc, &view, &power, &notes, sites, tallied, share)?;
     let scaling = scaling_of(alloc, &view, &power, &marked)?;
     Ok(Program {

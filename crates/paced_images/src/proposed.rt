@@ -14,7 +14,8 @@ use std::alloc::Global;
 
 /// Whether as many marks are of use as a proposal has.
 fn are_all(kept: &KeptMarks, proposal: &Proposal) -> bool
-    ensures { (result ≡ true) ↔ ((length kept.now.sites.items ≡ length proposal.now.sites.items) × (length kept.now.tallied.items ≡ length proposal.now.tallied.items)) }
+    ensures { (result ≡ true) ↔ ((length kept.now.sites.items ≡ length proposal.now.sites.items) ×
+        (length kept.now.tallied.items ≡ length proposal.now.tallied.items)) }
 {
     kept.sites.len() == proposal.sites.len() && kept.tallied.len() == proposal.tallied.len()
 }
@@ -28,7 +29,8 @@ fn pace_all(
     proposal: &Proposal,
 ) -> Result<Option<(Vec<u8>, Summary)>, Stop>
     requires { length image.now ≤ 4194304 }
-    ensures { AnswersBy (option_map (λ given. (given.0.items, given.1))) result (IsProposalPaced image.now machine.now loops.now proposal.now) }
+    ensures { AnswersBy (option_map (λ given. (given.0.items, given.1))) result
+        (IsProposalPaced image.now machine.now loops.now proposal.now) }
 {
     let program = program_of(
         alloc,
@@ -64,7 +66,8 @@ pub fn pace_useful(
     requires image { length image.now ≤ 4194304 }
     requires machine { length machine.now ≤ 1048576 }
     requires loops { length loops.now ≤ 1048576 }
-    ensures given { AnswersBy (option_map (λ given. (given.0.items, given.1))) result (IsProposalPaced image.now machine.now loops.now proposal.now) }
+    ensures given { AnswersBy (option_map (λ given. (given.0.items, given.1))) result
+        (IsProposalPaced image.now machine.now loops.now proposal.now) }
 
     // On each input on which the original run exits and is kept, by the files' own notes, the stored run keeps the promise.
     ensures safe { IfOk result (λ made. IfSome made (λ given. IsStoredSafely image.now machine.now loops.now given.0.items given.1)) }

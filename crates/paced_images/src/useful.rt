@@ -21,7 +21,8 @@ use std::alloc::Global;
 /// Whether there is a mark that a site gave its edge, and that stores a level.
 fn has_site_mark(power: &Power, budgets: &LevelBudgets, told: &Told, marks: &[Mark]) -> bool
     requires { IfSome told.now.least (λ z. z < 2 ^ 90) }
-    ensures { result ≡ list_any (useful.is_site_mark power.now (meets_in_budget power.now (budget_at budgets.now)) (told_view told.now)) marks.now }
+    ensures { result ≡ list_any (useful.is_site_mark power.now (meets_in_budget power.now (budget_at budgets.now)) (told_view told.now))
+        marks.now }
 {
     let Some((first, rest)) = marks.split_first() else {
         return false;
@@ -190,7 +191,8 @@ pub fn useful_marks(
     requires machine { length machine.now ≤ 1048576 }
     requires loops { length loops.now ≤ 1048576 }
     requires share { share ≤ 4 }
-    ensures { AnswersBy (λ kept. (kept.sites.items, kept.tallied.items)) result (useful.AreUseful image.now machine.now loops.now sites.now counted tallied.now share) }
+    ensures { AnswersBy (λ kept. (kept.sites.items, kept.tallied.items)) result
+        (useful.AreUseful image.now machine.now loops.now sites.now counted tallied.now share) }
 {
     let program = program_of(alloc, image, machine, loops, sites, counted, tallied, share)?;
     Ok(kept_marks(alloc, &program, sites, tallied)?)

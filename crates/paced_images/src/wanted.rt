@@ -48,7 +48,8 @@ pub fn names(site: SwitchSite, edge: Edge) -> bool
 /// The number of the first edge that starts at an address, and one past that of the last. Both are 0 where none starts there.
 pub fn edges_at(graph: &CodeGraph, at: u32) -> (usize, usize)
     ensures within { (result.0 ≤ result.1) × (result.1 ≤ length graph.now.code.edges) }
-    ensures edges { (e : ℕ) → e < length graph.now.code.edges → (edge_at (slice_get graph.now.code.edges e) ≡ at) ↔ ((result.0 ≤ e) × (e < result.1)) }
+    ensures edges { (e : ℕ) → e < length graph.now.code.edges → (edge_at (slice_get graph.now.code.edges e) ≡ at) ↔
+        ((result.0 ≤ e) × (e < result.1)) }
 {
     let _nodes = graph.node_count();
     match graph.find(at) {

@@ -1,4 +1,4 @@
--- What a leg of a stored run costs.
+-- Scaffold: what a leg of a stored run costs.
 use Rattle.std.specs.Prelude.{◌≡◌, ℕ, ◌+◌, List, Option, Some, None}
 use Rattle.power_model.specs.Numbers.{PowerModel, RunPrice}
 use Rattle.power_model.specs.Price.{switch_time, time_at}
@@ -20,4 +20,5 @@ pub record IsPaidLeg (power : PowerModel) (sites : List Site) (h : Shadow) (l : 
   pub parts : head + tail ≡ stored_cycles (costs_of power) sites l.step
   pub tail_is : tail ≡ tail_if (level_stored (fragments_over sites l.step) h) (tail_cycles (costs_of power) (fragments_over sites l.step))
   pub level : after.level ≡ (shadow_more sites h l.step).level
-  pub time : after.time ≡ before.time + time_at power before.level head + switch_time power before.level after.level + time_at power after.level tail
+  pub time : after.time ≡ before.time + time_at power before.level head + switch_time power before.level after.level + time_at power
+      after.level tail

@@ -1,4 +1,4 @@
--- A patched image whose stubs may stand anywhere and whose loops may have several counters: what it is made of, and what its runs then are.
+-- Scaffold: a patched image whose stubs may stand anywhere and whose loops may have several counters: what it is made of, and what its runs then are.
 use Rattle.std.specs.Prelude.{◌≡◌, ℕ, ◌+◌, ◌*◌, ◌≤◌, Bool, List, length}
 use Rattle.scale_base.specs.Image.{Image}
 use Rattle.scale_base.specs.Run.{HasExited, run_of, starting_level}
@@ -54,15 +54,21 @@ pub record IsBudgeted (power : PowerModel) (budget : ℕ → ℕ) (image patched
 -- what a run of it is, whose original is kept up to a step
 pub record IsTunedRun (power : PowerModel) (image patched : Image) (sites : List Site) (start : ℕ) (code : Code) (l : Loops) (is_of : ℕ → ℕ → Bool) (n more : Numbers) (input : List ℕ) (steps : ℕ) (c : Carried) : Type 0 where
   pub followed : IsKeptPatched image patched (length power.levels) sites start input code l is_of (costs_of power) steps c
-  pub paid : IsPaidRun power (text_of image) code l sites start n followed.kept.moves (run_of patched (length power.levels) input followed.followed.after).steps
+  pub paid : IsPaidRun power (text_of image) code l sites start n followed.kept.moves
+      (run_of patched (length power.levels) input followed.followed.after).steps
   pub starts : starting_level (length power.levels) patched.keyed_segment ≡ start
   -- the ending and the output
-  pub standing : (run_of patched (length power.levels) input followed.followed.after).standing ≡ (run_of image (length power.levels) input steps).standing
-  pub output : (run_of patched (length power.levels) input followed.followed.after).state.output ≡ (run_of image (length power.levels) input steps).state.output
+  pub standing : (run_of patched (length power.levels) input followed.followed.after).standing ≡
+      (run_of image (length power.levels) input steps).standing
+  pub output : (run_of patched (length power.levels) input followed.followed.after).state.output ≡
+      (run_of image (length power.levels) input steps).state.output
   -- no fewer steps, and not many more
-  pub not_fewer : length (run_of image (length power.levels) input steps).steps ≤ length (run_of patched (length power.levels) input followed.followed.after).steps
-  pub not_more : length (run_of patched (length power.levels) input followed.followed.after).steps ≤ length (run_of image (length power.levels) input steps).steps + more.worst 0
-  pub cycles : stepped_cycles (costs_of power) (run_of patched (length power.levels) input followed.followed.after).steps ≤ stepped_cycles (costs_of power) (run_of image (length power.levels) input steps).steps + more.worst 0
+  pub not_fewer : length (run_of image (length power.levels) input steps).steps ≤ length
+      (run_of patched (length power.levels) input followed.followed.after).steps
+  pub not_more : length (run_of patched (length power.levels) input followed.followed.after).steps ≤ length
+      (run_of image (length power.levels) input steps).steps + more.worst 0
+  pub cycles : stepped_cycles (costs_of power) (run_of patched (length power.levels) input followed.followed.after).steps ≤ stepped_cycles
+      (costs_of power) (run_of image (length power.levels) input steps).steps + more.worst 0
   -- in time, never rising, and no more energy
   pub time : (price power start (run_of patched (length power.levels) input followed.followed.after).steps).time ≤ power.deadline
   pub falls : NeverRises start (run_of patched (length power.levels) input followed.followed.after).steps

@@ -23,7 +23,8 @@ counted_moves g l counts (m ∷ ms) = counted_moves g l (counted_move g l counts
 
 -- Loops that can be counted so: no edge by which a call comes back is a back edge of one or leaves it, and no return stands in one.
 pub record AreCountable (g : Graph) (l : Loops) (counted : ℕ → Bool) : Type 0 where
-  pub calls : (k e f v : ℕ) → k < l.loops → counted k ≡ true → e < g.edges → g.callee e ≡ Some f → g.target e ≡ Some v → (is_back g l k e ≡ false) × (leaves l k (g.source e) (Some v) ≡ false)
+  pub calls : (k e f v : ℕ) → k < l.loops → counted k ≡ true → e < g.edges → g.callee e ≡ Some f → g.target e ≡ Some v →
+      (is_back g l k e ≡ false) × (leaves l k (g.source e) (Some v) ≡ false)
   pub returns : (k e : ℕ) → k < l.loops → counted k ≡ true → e < g.edges → g.returns e ≡ true → l.inside k (g.source e) ≡ false
 
 -- loop k is round the node, or round the site of a suspended call

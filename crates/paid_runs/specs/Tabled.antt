@@ -43,7 +43,8 @@ pub record AreRowsBy (power : PowerModel) (meets : EdgeNumbers → ℕ → ℕ �
   pub counts : is_of counter loop ≡ true
   pub left : leaves l loop (g.source e) (g.target e) ≡ true
   pub enough : l.bound loop / 2 ^ shift < length rows
-  pub entries : (j i : ℕ) → j < length rows → i < length power.levels → IsEntryBy meets (at_row (l.bound loop) (n.iteration loop) shift told j) i (four_bits (slice_index rows j) i)
+  pub entries : (j i : ℕ) → j < length rows → i < length power.levels → IsEntryBy meets
+      (at_row (l.bound loop) (n.iteration loop) shift told j) i (four_bits (slice_index rows j) i)
 
 -- the lowest level is an entry of every level
 abbrev pub AreAllLowest : PowerModel → (EdgeNumbers → ℕ → ℕ → Bool) → EdgeNumbers → Type 0
@@ -56,9 +57,11 @@ pub record IsTallyBy (power : PowerModel) (meets : EdgeNumbers → ℕ → ℕ �
   pub counts : is_of counter loop ≡ true
   pub back : is_back g l loop e ≡ true
   pub held : is_round l loop (g.target e) ≡ true
-  pub lowest : (count : ℕ) → count ≤ l.bound loop → is_due shift from count ≡ true → AreAllLowest power meets (behind_turns (count + 1) (n.iteration loop) told)
+  pub lowest : (count : ℕ) → count ≤ l.bound loop → is_due shift from count ≡ true →
+      AreAllLowest power meets (behind_turns (count + 1) (n.iteration loop) told)
 
-abbrev pub IsTableBy : PowerModel → (EdgeNumbers → ℕ → ℕ → Bool) → Graph → Loops → Numbers → EdgeNumbers → (ℕ → ℕ → Bool) → ℕ → Fragment → Type 0
+abbrev pub IsTableBy : PowerModel → (EdgeNumbers → ℕ → ℕ → Bool) → Graph → Loops → Numbers → EdgeNumbers → (ℕ → ℕ → Bool) → ℕ → Fragment →
+    Type 0
 IsTableBy power meets g l n told is_of e (Switch table) = (i : ℕ) → i < length power.levels → IsEntryBy meets told i (four_bits table i)
 IsTableBy power meets g l n told is_of e (Exit counter shift rows) = AreRowsBy power meets g l n told is_of e counter shift rows
 IsTableBy power meets g l n told is_of e (Reset counter) = ⊥
@@ -74,18 +77,28 @@ pub record IsEdgeWithTable (power : PowerModel) (meets : EdgeNumbers → ℕ →
   pub table : IsTableBy power meets g l n (told_on g l w n least e tail) is_of e f
 
 -- only the first fragment of an edge has a table
-abbrev pub IsEdgeTabledBy : PowerModel → (EdgeNumbers → ℕ → ℕ → Bool) → Graph → Loops → (ℕ → ℕ) → Numbers → Charged → (ℕ → ℕ → Bool) → ℕ → List Fragment → Type 0
+abbrev pub IsEdgeTabledBy : PowerModel → (EdgeNumbers → ℕ → ℕ → Bool) → Graph → Loops → (ℕ → ℕ) → Numbers → Charged → (ℕ → ℕ → Bool) → ℕ →
+    List Fragment → Type 0
 IsEdgeTabledBy power meets g l w n least is_of e [] = Unit {0}
-IsEdgeTabledBy power meets g l w n least is_of e (Switch table ∷ fs) = IsEdgeWithTable power meets g l w n least is_of e (tail_cycles (costs_of power) (Switch table ∷ fs)) (Switch table)
-IsEdgeTabledBy power meets g l w n least is_of e (Exit counter shift rows ∷ fs) = IsEdgeWithTable power meets g l w n least is_of e (tail_cycles (costs_of power) (Exit counter shift rows ∷ fs)) (Exit counter shift rows)
+IsEdgeTabledBy power meets g l w n least is_of e (Switch table ∷ fs) = IsEdgeWithTable power meets g l w n least is_of e
+    (tail_cycles (costs_of power) (Switch table ∷ fs)) (Switch table)
+IsEdgeTabledBy power meets g l w n least is_of e (Exit counter shift rows ∷ fs) =
+    IsEdgeWithTable power meets g l w n least is_of e (tail_cycles (costs_of power) (Exit counter shift rows ∷ fs))
+    (Exit counter shift rows)
 IsEdgeTabledBy power meets g l w n least is_of e (Reset counter ∷ fs) = Unit {0}
 IsEdgeTabledBy power meets g l w n least is_of e (Count counter ∷ fs) = Unit {0}
-IsEdgeTabledBy power meets g l w n least is_of e (Lowest down ∷ fs) = IsEdgeWithTable power meets g l w n least is_of e (tail_cycles (costs_of power) (Lowest down ∷ fs)) (Lowest down)
-IsEdgeTabledBy power meets g l w n least is_of e (Tally counter shift from ∷ fs) = IsEdgeWithTable power meets g l w n least is_of e (tail_cycles (costs_of power) (Tally counter shift from ∷ fs)) (Tally counter shift from)
+IsEdgeTabledBy power meets g l w n least is_of e (Lowest down ∷ fs) = IsEdgeWithTable power meets g l w n least is_of e
+    (tail_cycles (costs_of power) (Lowest down ∷ fs)) (Lowest down)
+IsEdgeTabledBy power meets g l w n least is_of e (Tally counter shift from ∷ fs) =
+    IsEdgeWithTable power meets g l w n least is_of e (tail_cycles (costs_of power) (Tally counter shift from ∷ fs))
+    (Tally counter shift from)
 
-abbrev pub AreTabledBy : PowerModel → (EdgeNumbers → ℕ → ℕ → Bool) → Text → Code → Loops → List Site → (ℕ → ℕ → Bool) → Numbers → Charged → Type 0
-AreTabledBy power meets t code l sites is_of n least = (e : ℕ) (class : Class) → e < (text_graph t code).edges → edge_class t (slice_get code.edges e) ≡ Some class
-    → IsEdgeTabledBy power meets (text_graph t code) l (weights_of power t code sites) n least is_of e (fragments_of_class (place_at sites (edge_at (slice_get code.edges e))) class)
+abbrev pub AreTabledBy : PowerModel → (EdgeNumbers → ℕ → ℕ → Bool) → Text → Code → Loops → List Site → (ℕ → ℕ → Bool) → Numbers → Charged →
+    Type 0
+AreTabledBy power meets t code l sites is_of n least = (e : ℕ) (class : Class) → e < (text_graph t code).edges →
+    edge_class t (slice_get code.edges e) ≡ Some class
+    → IsEdgeTabledBy power meets (text_graph t code) l (weights_of power t code sites) n least is_of e
+    (fragments_of_class (place_at sites (edge_at (slice_get code.edges e))) class)
 
 abbrev pub AreTabledOf : PowerModel → Text → Code → Loops → List Site → (ℕ → ℕ → Bool) → Numbers → Charged → Type 0
 AreTabledOf power t code l sites is_of n least = AreTabledBy power (meets_both power) t code l sites is_of n least

@@ -28,7 +28,9 @@ use Rattle.scale_sites.specs.Marks.{marks_of}
 use Rattle.scale_sites.specs.Sites.{SitesView, is_branch, marks_by, marks_at_edge, AreSites}
 use Rattle.rewritten_runs.specs.Stubs.{plain_weights, marks_by_slack}
 use Rattle.rewritten_runs.proofs.Laws.{listed_weights, weights_listed, weights_hold, numbers_listed}
-use Rattle.scaler.specs.Held.{IsHeldProgram, held_at, held_from, held_within}
+use Rattle.scaler.specs.declared.timing.TimedProgram.{TimedProgram}
+use Rattle.scaler.specs.Timed.{IsTimed}
+use Rattle.scaler.proofs.Laws.{timed_plain, timed_total}
 use Rattle.marked_images.specs.Scalings.{chosen_level, starting_of}
 use Rattle.worst_walks.specs.declared.counts.WalkCounts.{WalkCounts}
 use Rattle.worst_walks.specs.declared.search.Known.{Known}
@@ -38,12 +40,6 @@ use Rattle.plan_graphs.specs.declared.sketch.Marked.{Marked}
 use Rattle.plan_graphs.specs.Drawn.{Told}
 use Rattle.plan_graphs.specs.Sketched.{AreMarksKept, AreMarkedBy, IsSketched, HoldsTold, ArePartsDrawn, AreKnownDrawn, marks_kept, taken_kept, calls_kept, turns_kept}
 use Rattle.plan_graphs.specs.Program.{AreMarksDrawn, IsWalkDrawn, IsDrawnProgram}
-
--- where the numbers stop, the whole does
-pub numbers_stop : (power : PowerModel) (image : Image) (notes : List LoopNote) (meant : Result WorstView Refusal → Type 0) → ((refusal : Refusal) → meant (Err refusal) → IsHeldProgram power image notes (Err refusal))
-    → (stop : Stop) → AnswersBy {X = WorstView} {Y = WorstView} (λ n. n) (Err stop) meant → AnswersBy {X = PlanGraph} {Y = PlanGraph} (λ p. p) (Err stop) (IsDrawnProgram power image notes)
-numbers_stop power image notes meant up (Refused refusal) h = up refusal h
-numbers_stop power image notes meant up Memory h = tt
 
 -- what is drawn of a sketch is what is drawn of the program that is known
 pub known_drawn : (x : Known) (marked : Option Marked) (worst : ℕ) (walk : Option WalkCounts) (result : Result PlanGraph NoMemory)
@@ -58,110 +54,70 @@ known_drawn x marked worst walk (Err stop) is_walk walked countable drawn = tt
 abbrev pub told_of : Numbers → Option Marked → Option WalkCounts → Told
 told_of n marked walk = record { numbers = n; marks = marks_kept marked; taken = taken_kept walk; calls = calls_kept walk; turns = turns_kept walk }
 
-module _ (power : PowerModel) (image : Image) (notes : List LoopNote) (v : FlowGraph) (t : LoopView) (is : IsGraphOf (text_of image) v) (tree : IsTreeOf v notes t) (ws : List ℕ) (listed : ws ≡ listed_weights v (cycles_of power.costs)) where
-  -- ---- the weights
+module _ (power : PowerModel) (image : Image) (notes : List LoopNote) (p : TimedProgram) (h : IsTimed power image notes p) where
+  abbrev v : FlowGraph
+  v = p.graph
 
-  pub plain_is : by_edge ws ≡ plain_weights power image v
-  plain_is = ap by_edge listed ∙ weights_listed (text_of image) v (cycles_of power.costs) is
+  abbrev t : LoopView
+  t = p.tree
 
-  pub calls : AreWeights (graph v) (by_edge ws)
-  calls = subst (λ (l : List ℕ). AreWeights (graph v) (by_edge l)) (sym listed) (weights_hold (text_of image) v (cycles_of power.costs) is)
+  abbrev ws : List ℕ
+  ws = p.weights
 
-  pub plain_numbers : (n : Numbers) → AreNumbers (graph v) (loops v t) (by_edge ws) n → AreNumbers (graph v) (loops v t) (plain_weights power image v) n
-  plain_numbers n h = subst (λ (f : ℕ → ℕ). AreNumbers (graph v) (loops v t) f n) plain_is h
+  abbrev x : WorstView
+  x = p.worst
 
-  -- ---- refusals
+  abbrev n : Numbers
+  n = h.worst_is.numbers.0
 
-  held : (n : Numbers) → AreNumbers (graph v) (loops v t) (by_edge ws) n → (refusal : Refusal) → Err refusal ≡ held_within power image (n.worst 0) → IsHeldProgram power image notes (Err refusal)
-  held n h refusal a = inr (inr (record {
-    code = v;
-    tree = t;
-    numbers = n;
-    code_is = is;
-    tree_is = tree;
-    numbers_are = numbers_listed (text_of image) v (cycles_of power.costs) (loops v t) n is (subst (λ (l : List ℕ). AreNumbers (graph v) (loops v t) (by_edge l) n) listed h);
-    answer_is = a;
-  }))
+  plain_is : by_edge ws ≡ plain_weights power image v
+  plain_is = timed_plain power image notes p h
 
-  pub too_long : (refusal : Refusal) → IsWorstFound (graph v) (loops v t) (by_edge ws) (Err refusal) → IsHeldProgram power image notes (Err refusal)
-  too_long refusal h =
-      let over : nat_lt 281474976710656 (h.1.0.worst 0) ≡ true = lt-ltb 281474976710656 (h.1.0.worst 0) h.1.2 in
-      held h.1.0 h.1.1 refusal (ap (λ r. Err r) h.0 ∙ sym (ap (λ b. cond b (Err TooLong) (held_at power image (h.1.0.worst 0))) over))
+  count : (loops v t).loops ≡ length t.headers
+  count = length-map t.headers (node_address v)
 
-  -- ---- the numbers
+  pub turns_size : length x.iteration ≡ length t.headers
+  turns_size = h.worst_is.loops_size ∙ count
 
-  module _ (x : WorstView) (total : ℕ) (found : IsWorstFound (graph v) (loops v t) (by_edge ws) (Ok x)) (total_is : slice_get x.worst 0 ≡ Some total) where
-    abbrev pub n : Numbers
-    n = found.numbers.0
+  turn_at : (k : ℕ) → k < length t.headers → slice_get x.iteration k ≡ Some (n.iteration k)
+  turn_at k lt = h.worst_is.numbers.3 k (let c = count in omega (arith, c, lt))
 
-    here : slice_get x.worst 0 ≡ Some (n.worst 0)
-    here = found.numbers.2 0 is.flow.program.main
+  -- ---- what is kept
 
-    pub total_worst : total ≡ n.worst 0
-    total_worst = let a = here in let b = total_is in cc
+  pub marks_kept_at : (slacks : List ℕ) (min_gain : ℕ) (marked : Option Marked) → AreMarkedBy v t slacks min_gain marked → AreMarksKept v t marked
+  marks_kept_at slacks min_gain None are = tt
+  marks_kept_at slacks min_gain (Some m) are = (are.0.1, are.1.marks_size)
 
-    pub short : n.worst 0 ≤ 281474976710656
-    short = let e = get_or_from_slice_get x.worst 0 (n.worst 0) 0 here in let s = found.small in omega (arith, e, s)
+  pub holds : (marked : Option Marked) (walk : Option WalkCounts) → HoldsLeft v (loops v t) (by_edge ws) n x → HoldsTold v t x marked walk (told_of n marked walk)
+  holds marked walk left = record {
+    rest = left.rest;
+    context = left.context;
+    worst = h.worst_is.numbers.2;
+    turn = turn_at;
+    marks = λ e. refl;
+    taken = λ e. refl;
+    calls = λ f. refl;
+    turns = λ k. refl;
+  }
 
-    within : held_within power image (n.worst 0) ≡ held_at power image total
-    within = ap (λ b. cond b (Err TooLong) (held_at power image (n.worst 0))) (le-ltb 281474976710656 (n.worst 0) short) ∙ ap (held_at power image) (sym total_worst)
+  -- ---- what is drawn
 
-    late_at : (o : Option ℕ) → slowest_of power total ≡ o → (refusal : Refusal) → Err refusal ≡ starting_of power total o → Err refusal ≡ held_at power image total
-    unfolding held_at
-    late_at None slow refusal e = let same : refusal ≡ DeadlineMissed (time_at power (fastest power) total) power.deadline = cc in ap (λ r. Err r) same ∙ sym (ap (held_from power image total) slow)
-    late_at (Some start) slow refusal e = let never : ⊥ = cc in absurd never
+  pub marks_drawn : (marked : Option Marked) → HoldsLeft v (loops v t) (by_edge ws) n x → AreMarkedBy v t x.slacks power.min_gain marked → AreMarksDrawn power image v t n (is_some marked) (marks_kept marked)
+  marks_drawn None left are = (are, λ e. refl)
+  marks_drawn (Some m) left are = (
+    subst (λ c. AreCounters v t (Ok c)) are.0.1 are.0,
+    λ e lt.
+        get_or_from_slice_get m.sites.marks e (marks_by v t m.counters x.slacks power.min_gain e) [] (are.1.marks e lt)
+        ∙ (ap (λ cs. marks_of (graph v) (loops v t) cs (is_branch v e) (slice_index x.slacks e) power.min_gain e) are.0.1
+        ∙ ap (λ q. marks_of (graph v) (loops v t) (counted_loops t) (is_branch v e) q power.min_gain e) (slack_is e lt)),
+  )
+    where
+      slack_is : (e : ℕ) → e < length v.code.edges → slice_index x.slacks e ≡ slack_at (graph v) (loops v t) (plain_weights power image v) n e
+      slack_is e lt = get_or_from_slice_get x.slacks e (slack_at (graph v) (loops v t) (by_edge ws) n e) 0 (left.slack e lt) ∙ ap (λ w. slack_at (graph v) (loops v t) w n e) plain_is
 
-    pub late : (refusal : Refusal) → Err refusal ≡ chosen_level power total → IsHeldProgram power image notes (Err refusal)
-    late refusal e = held n found.numbers.1 refusal (late_at (slowest_of power total) refl refusal e ∙ sym within)
-
-    slow_by : (o : Option ℕ) → slowest_of power total ≡ o → (start : ℕ) → Ok start ≡ starting_of power total o → slowest_of power (n.worst 0) ≡ Some start
-    slow_by None slow start e = let never : ⊥ = cc in absurd never
-    slow_by (Some i) slow start e = let q : start ≡ i = cc in subst (λ k. slowest_of power k ≡ Some start) total_worst (slow ∙ ap Some (sym q))
-
-    pub slow : (start : ℕ) → Ok start ≡ chosen_level power total → slowest_of power (n.worst 0) ≡ Some start
-    slow start e = slow_by (slowest_of power total) refl start e
-
-    count : (loops v t).loops ≡ length t.headers
-    count = length-map t.headers (node_address v)
-
-    pub turns_size : length x.iteration ≡ length t.headers
-    turns_size = found.loops_size ∙ count
-
-    turn_at : (k : ℕ) → k < length t.headers → slice_get x.iteration k ≡ Some (n.iteration k)
-    turn_at k lt = found.numbers.3 k (let c = count in omega (arith, c, lt))
-
-    -- ---- what is kept
-
-    pub marks_kept_at : (slacks : List ℕ) (min_gain : ℕ) (marked : Option Marked) → AreMarkedBy v t slacks min_gain marked → AreMarksKept v t marked
-    marks_kept_at slacks min_gain None are = tt
-    marks_kept_at slacks min_gain (Some m) are = (are.0.1, are.1.marks_size)
-
-    pub holds : (marked : Option Marked) (walk : Option WalkCounts) → HoldsLeft v (loops v t) (by_edge ws) n x → HoldsTold v t x marked walk (told_of n marked walk)
-    holds marked walk left = record {
-      rest = left.rest;
-      context = left.context;
-      worst = found.numbers.2;
-      turn = turn_at;
-      marks = λ e. refl;
-      taken = λ e. refl;
-      calls = λ f. refl;
-      turns = λ k. refl;
-    }
-
-    -- ---- what is drawn
-
-    pub marks_drawn : (marked : Option Marked) → HoldsLeft v (loops v t) (by_edge ws) n x → AreMarkedBy v t x.slacks power.min_gain marked → AreMarksDrawn power image v t n (is_some marked) (marks_kept marked)
-    marks_drawn None left are = (are, λ e. refl)
-    marks_drawn (Some m) left are = (
-      subst (λ c. AreCounters v t (Ok c)) are.0.1 are.0,
-      λ e lt.
-          get_or_from_slice_get m.sites.marks e (marks_by v t m.counters x.slacks power.min_gain e) [] (are.1.marks e lt)
-          ∙ (ap (λ cs. marks_of (graph v) (loops v t) cs (is_branch v e) (slice_index x.slacks e) power.min_gain e) are.0.1
-          ∙ ap (λ q. marks_of (graph v) (loops v t) (counted_loops t) (is_branch v e) q power.min_gain e) (slack_is e lt)),
-    )
-      where
-        slack_is : (e : ℕ) → e < length v.code.edges → slice_index x.slacks e ≡ slack_at (graph v) (loops v t) (plain_weights power image v) n e
-        slack_is e lt = get_or_from_slice_get x.slacks e (slack_at (graph v) (loops v t) (by_edge ws) n e) 0 (left.slack e lt) ∙ ap (λ w. slack_at (graph v) (loops v t) w n e) plain_is
+  module _ (total : ℕ) (total_is : slice_get x.worst 0 ≡ Some total) where
+    total_worst : total ≡ n.worst 0
+    total_worst = timed_total power image notes p h total total_is
 
     pub walk_drawn : (marked : Option Marked) (walk : Option WalkCounts) → IfSome walk (λ y. IsWorstWalk (graph v) (loops v t) (by_edge ws) total y)
         → IsWalkDrawn v t (plain_weights power image v) (n.worst 0) (is_some walk) (told_of n marked walk)

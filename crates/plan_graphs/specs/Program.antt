@@ -26,13 +26,15 @@ use Rattle.plan_graphs.specs.Drawn.{Told, AreDrawn, IsBlockDrawn, IsFunctionDraw
 -- The marks of edges are those that `rewrite` chooses, by the slack of each under the costs of the program's own instructions. There are none where `rewrite` refuses a loop
 -- that can't be counted, or too many of them. Where the program isn't in time with its stubs, or a stub is out of reach, they are drawn all the same.
 abbrev pub AreMarksDrawn : PowerModel → Image → FlowGraph → LoopView → Numbers → Bool → (ℕ → List Mark) → Type 0
-AreMarksDrawn power image v t n true marks = AreCounters v t (Ok (counted_loops t)) × ((e : ℕ) → e < length v.code.edges → marks e ≡ marks_by_slack power image v t n e)
+AreMarksDrawn power image v t n true marks = AreCounters v t (Ok (counted_loops t)) ×
+    ((e : ℕ) → e < length v.code.edges → marks e ≡ marks_by_slack power image v t n e)
 AreMarksDrawn power image v t n false marks = ((refusal : Refusal) × AreCounters v t (Err refusal)) × ((e : ℕ) → marks e ≡ [])
 
 -- The counts are those of one walk that takes the worst cycles, and nothing where none was found: that one is found is tested, not proved.
 abbrev pub IsWalkDrawn : FlowGraph → LoopView → (ℕ → ℕ) → ℕ → Bool → Told → Type 0
 IsWalkDrawn v t w worst true told = (x : WalkCounts) × IsWorstWalk (graph v) (loops v t) w worst x
-    × ((e : ℕ) → told.taken e ≡ number_in_place x.taken.items e) × ((f : ℕ) → told.calls f ≡ number_in_place x.calls.items f) × ((k : ℕ) → told.turns k ≡ number_in_place x.turns.items k)
+    × ((e : ℕ) → told.taken e ≡ number_in_place x.taken.items e) × ((f : ℕ) → told.calls f ≡ number_in_place x.calls.items f) ×
+    ((k : ℕ) → told.turns k ≡ number_in_place x.turns.items k)
 IsWalkDrawn v t w worst false told = ((e : ℕ) → told.taken e ≡ 0) × ((f : ℕ) → told.calls f ≡ 0) × ((k : ℕ) → told.turns k ≡ 0)
 
 -- The graph and the loops of an image, under the costs of its own instructions, as `hold` has them; its worst cycles, which are in time at some level; and all its functions,

@@ -1,4 +1,4 @@
--- A program with its numbers, its marks and a walk, as the code keeps them.
+-- Scaffold: a program with its numbers, its marks and a walk, as the code keeps them.
 use Rattle.std.specs.Prelude.{◌≡◌, ℕ, ◌<◌, Bool, List, [], length, slice_get, Option, Some, None, is_some, IfSome, Ok, Err}
 use Rattle.scale_base.specs.declared.refusal.Refusal.{Refusal}
 use Rattle.scale_base.specs.declared.fragments.Mark.{Mark}
@@ -91,4 +91,5 @@ pub record AreKnownDrawn (x : Known) (marked : Option Marked) (worst : ℕ) (pla
   pub is_walk : IfSome walk (λ y. IsWorstWalk (graph x.graph.now) (loops x.graph.now x.tree.now) (by_edge x.weights.now) worst y)
   pub walked : plan.walked ≡ is_some walk
   pub countable : plan.countable ≡ is_some marked
-  pub drawn : (told : Told) → HoldsTold x.graph.now x.tree.now x.worst.now marked walk told → ArePartsDrawn x.graph.now x.tree.now x.worst.now told plan
+  pub drawn : (told : Told) → HoldsTold x.graph.now x.tree.now x.worst.now marked walk told →
+      ArePartsDrawn x.graph.now x.tree.now x.worst.now told plan

@@ -43,7 +43,8 @@ fn first_node(graph: &CodeGraph, b: usize) -> usize
 /// The number of the last node of block `b`.
 fn last_node(graph: &CodeGraph, b: usize) -> usize
     requires { b < length graph.now.blocks }
-    ensures node { (range : Range) → slice_get graph.now.blocks b ≡ Some range → slice_get graph.now.code.nodes result ≡ Some (range.to - 4) }
+    ensures node { (range : Range) → slice_get graph.now.blocks b ≡ Some range →
+        slice_get graph.now.code.nodes result ≡ Some (range.to - 4) }
     ensures within { result < length graph.now.code.nodes }
 {
     let _nodes = graph.node_count();
@@ -101,7 +102,8 @@ fn draw_block(alloc: Global, sketch: &Sketch<'_, '_>, b: usize) -> Result<DrawnB
 /// The blocks of a program.
 pub fn draw_blocks(alloc: Global, sketch: &Sketch<'_, '_>) -> Result<Vec<DrawnBlock>, NoMemory>
     requires { IsSketch sketch.now }
-    ensures { IfOk result (λ xs. (told : Told) → Holds sketch.now told → AreDrawn (IsBlockDrawn sketch.now.graph.now sketch.now.tree.now told) (length sketch.now.graph.now.blocks) xs.items) }
+    ensures { IfOk result (λ xs. (told : Told) → Holds sketch.now told → AreDrawn
+        (IsBlockDrawn sketch.now.graph.now sketch.now.tree.now told) (length sketch.now.graph.now.blocks) xs.items) }
 {
     let mut blocks = Vec::new(alloc);
     for b in 0..sketch.graph.block_count() {

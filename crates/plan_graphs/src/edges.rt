@@ -36,7 +36,8 @@ fn leads_of(graph: &CodeGraph, e: usize) -> Leads
 fn left_of(sketch: &Sketch<'_, '_>, e: usize) -> u64
     requires sketch { IsSketch sketch.now }
     requires edge { e < length sketch.now.graph.now.code.edges }
-    ensures { (told : Told) → Holds sketch.now told → result ≡ left_behind (graph_seen sketch.now.graph.now) (loops sketch.now.graph.now sketch.now.tree.now) told.numbers e }
+    ensures { (told : Told) → Holds sketch.now told → result ≡ left_behind (graph_seen sketch.now.graph.now)
+        (loops sketch.now.graph.now sketch.now.tree.now) told.numbers e }
 {
     if sketch.graph.is_return(e) {
         sketch
@@ -81,7 +82,8 @@ pub fn draw_edges(
     requires sketch { IsSketch sketch.now }
     requires node { k < length sketch.now.graph.now.code.nodes }
     ensures some { IfOk result (λ xs. 0 < length xs.items) }
-    ensures edges { IfOk result (λ xs. (told : Told) → Holds sketch.now told → AreEdgesFrom sketch.now.graph.now sketch.now.tree.now told (slice_index sketch.now.graph.now.code.nodes k) xs.items) }
+    ensures edges { IfOk result (λ xs. (told : Told) → Holds sketch.now told →
+        AreEdgesFrom sketch.now.graph.now sketch.now.tree.now told (slice_index sketch.now.graph.now.code.nodes k) xs.items) }
 {
     let (first, end) = sketch.graph.edges_of(k);
     let mut edges = Vec::new(alloc);

@@ -46,7 +46,8 @@ pub fn draw_functions(
     sketch: &Sketch<'_, '_>,
 ) -> Result<Vec<DrawnFunction>, NoMemory>
     requires { IsSketch sketch.now }
-    ensures { IfOk result (λ xs. (told : Told) → Holds sketch.now told → AreDrawn (IsFunctionDrawn sketch.now.graph.now told) (length sketch.now.graph.now.code.functions) xs.items) }
+    ensures { IfOk result (λ xs. (told : Told) → Holds sketch.now told → AreDrawn (IsFunctionDrawn sketch.now.graph.now told)
+        (length sketch.now.graph.now.code.functions) xs.items) }
 {
     let mut functions = Vec::new(alloc);
     for f in 0..sketch.graph.function_count() {

@@ -46,7 +46,8 @@ fn draw_loop(alloc: Global, sketch: &Sketch<'_, '_>, l: usize) -> Result<DrawnLo
 /// The loops of a program.
 pub fn draw_loops(alloc: Global, sketch: &Sketch<'_, '_>) -> Result<Vec<DrawnLoop>, NoMemory>
     requires { IsSketch sketch.now }
-    ensures { IfOk result (λ xs. (told : Told) → Holds sketch.now told → AreDrawn (IsLoopDrawn sketch.now.graph.now sketch.now.tree.now told) (length sketch.now.tree.now.headers) xs.items) }
+    ensures { IfOk result (λ xs. (told : Told) → Holds sketch.now told → AreDrawn
+        (IsLoopDrawn sketch.now.graph.now sketch.now.tree.now told) (length sketch.now.tree.now.headers) xs.items) }
 {
     let mut loops = Vec::new(alloc);
     for l in 0..sketch.tree.loop_count() {

@@ -54,7 +54,8 @@ pub fn marks_at(
 ) -> Result<Vec<DrawnMark>, NoMemory>
     requires sketch { IsSketch sketch.now }
     requires edge { e < length sketch.now.graph.now.code.edges }
-    ensures { IfOk result (λ drawn. drawn.items ≡ map (drawn_mark (counted_loops sketch.now.tree.now)) (marks_kept sketch.now.marked.now e)) }
+    ensures { IfOk result (λ drawn. drawn.items ≡ map (drawn_mark (counted_loops sketch.now.tree.now))
+        (marks_kept sketch.now.marked.now e)) }
 {
     match sketch.marked {
         None => Ok(Vec::new(alloc)),

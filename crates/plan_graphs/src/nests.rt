@@ -18,7 +18,8 @@ pub fn nest_of(
 ) -> Result<Vec<usize>, NoMemory>
     requires tree { (extent : ℕ → ℕ → Bool) × IsLoopTree graph.now extent tree.now }
     requires inner { (at : ℕ) × IsInnermost (loops graph.now tree.now) at inner }
-    ensures { IfOk result (λ nest. (at : ℕ) → IsInnermost (loops graph.now tree.now) at inner → AreLoopsRound (loops graph.now tree.now) at nest.items) }
+    ensures { IfOk result (λ nest. (at : ℕ) → IsInnermost (loops graph.now tree.now) at inner →
+        AreLoopsRound (loops graph.now tree.now) at nest.items) }
 {
     let _nodes = graph.node_count();
     let mut nest = Vec::new(alloc);

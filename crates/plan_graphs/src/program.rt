@@ -14,23 +14,15 @@ use crate::functions::draw_functions;
 use crate::loops::draw_loops;
 use crate::plan::PlanGraph;
 use crate::sketch::{Marked, Sketch};
-use answer_parts::check_unscaled;
-use code_graph::build_graph;
 use code_names::names_of;
 use elf_image::ImageView;
-use elf_view::read_image;
 use flow_graph::CodeGraph;
-use loop_file::{LoopNotes, read_loops};
 use loop_forest::LoopTree;
-use loop_tree::build_loops;
-use machine_file::read_machine;
-use marked_images::starting_level;
-use power_model::Power;
+use program_sources::Sources;
 use scale_base::{NoMemory, Stop};
 use scale_sites::{CounterList, choose, counters};
-use scaler::weights_of;
+use scaler::TimedProgram;
 use std::alloc::Global;
-use worst_cycles::worst;
 use worst_walks::{Known, worst_walk};
 
 /// The counted loops. None where they can't be counted, or are too many.
@@ -96,7 +88,8 @@ fn draw_known<'x>(
     requires known { IsKnown known.now }
     requires turns { length known.now.worst.now.iteration ≡ length known.now.tree.now.headers }
     requires marked { AreMarksKept known.now.graph.now known.now.tree.now marked.now }
-    ensures { (worst : ℕ) → slice_get known.now.worst.now.worst 0 ≡ Some worst → IfOk result (λ plan. AreKnownDrawn known.now marked.now worst plan) }
+    ensures { (worst : ℕ) → slice_get known.now.worst.now.worst 0 ≡ Some worst →
+        IfOk result (λ plan. AreKnownDrawn known.now marked.now worst plan) }
 {
     let walk = worst_walk(alloc, known)?;
     let names = names_of(alloc, view)?;
@@ -112,29 +105,19 @@ fn draw_known<'x>(
 }
 
 /// The graph of the program of an image, with the loops of its notes, or the first refusal of its code, of its loops or of its numbers.
-fn draw_program(
-    alloc: Global,
-    view: &ImageView<'_>,
-    power: &Power,
-    notes: &LoopNotes,
-) -> Result<PlanGraph, Stop>
-    requires { IsPowerModel power.now }
-    ensures { AnswersBy (λ plan. plan) result (IsDrawnProgram power.now view.now notes.now) }
+fn draw_program(alloc: Global, sources: &Sources<'_>) -> Result<PlanGraph, Stop>
+    requires { IsPowerModel sources.now.power }
+    ensures { AnswersBy (λ plan. plan) result (IsDrawnProgram sources.now.power sources.now.view sources.now.notes) }
 {
-    let graph = build_graph(alloc, view)?;
-    let tree = build_loops(alloc, &graph, notes)?;
-    let weights = weights_of(alloc, &graph, power)?;
-    let numbers = worst(alloc, &graph, &tree, &weights)?;
-    let total = numbers.total();
-    let _start = starting_level(power, total)?;
+    let timed = TimedProgram::of(alloc, sources)?;
     let known = Known {
-        graph: &graph,
-        tree: &tree,
-        weights: &weights,
-        worst: &numbers,
+        graph: &timed.graph,
+        tree: &timed.tree,
+        weights: &timed.weights,
+        worst: &timed.worst,
     };
-    let marked = marked_of(alloc, &known, power.min_gain)?;
-    Ok(draw_known(alloc, view, &known, &marked)?)
+    let marked = marked_of(alloc, &known, sources.power.min_gain)?;
+    Ok(draw_known(alloc, &sources.view, &known, &marked)?)
 }
 
 /// The graph of a program's reached code as it is drawn: its functions, its loops, and its basic blocks in ascending order, each with the edges that start at its end. Each edge
@@ -150,9 +133,6 @@ pub fn draw_plan(
 ) -> Result<PlanGraph, Stop>
     ensures { AnswersBy (λ plan. plan) result (IsPlanDrawn image.now machine.now loops.now) }
 {
-    let power = read_machine(alloc, machine)?;
-    let view = read_image(alloc, image)?;
-    check_unscaled(view.keyed())?;
-    let notes = read_loops(alloc, loops, &view)?;
-    draw_program(alloc, &view, &power, &notes)
+    let sources = Sources::read(alloc, image, machine, loops)?;
+    draw_program(alloc, &sources)
 }

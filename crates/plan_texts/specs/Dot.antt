@@ -89,7 +89,8 @@ call_words functions (Some call) = callee_words functions call
 
 -- a block and its edges, with its call as an arrow, and with its call as words
 unfoldable pub block_lines : DrawnBlock → List ℕ
-block_lines b = block_line [] b ++ flat_map (edge_line b.range.from) b.edges.items ++ call_line b.range.from (list_any is_taken b.edges.items) b.call
+block_lines b = block_line [] b ++ flat_map (edge_line b.range.from) b.edges.items ++ call_line b.range.from
+    (list_any is_taken b.edges.items) b.call
 
 unfoldable pub calling_lines : List DrawnFunction → DrawnBlock → List ℕ
 calling_lines functions b = block_line (call_words functions b.call) b ++ flat_map (edge_line b.range.from) b.edges.items

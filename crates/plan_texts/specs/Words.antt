@@ -15,7 +15,8 @@ use Rattle.plan_graphs.specs.declared.plan.Leads.TheVariants as leads
 
 -- the bytes of letters, of digits, and of `_`, `.` and `$`: none of them means anything in a string of DOT
 abbrev pub is_plain_byte : ℕ → Bool
-is_plain_byte b = (nat_le 97 b && nat_le b 122) || ((nat_le 65 b && nat_le b 90) || ((nat_le 48 b && nat_le b 57) || ((b == 95) || ((b == 46) || (b == 36)))))
+is_plain_byte b = (nat_le 97 b && nat_le b 122) || ((nat_le 65 b && nat_le b 90) ||
+    ((nat_le 48 b && nat_le b 57) || ((b == 95) || ((b == 46) || (b == 36)))))
 
 -- the line of a name, if there is one; a symbol of other bytes isn't shown
 abbrev pub name_line : Option PlaceName → List ℕ

@@ -96,7 +96,8 @@ pub fn push_calling_block(
     functions: &[DrawnFunction],
     block: &DrawnBlock,
 ) -> Result<(), AllocError>
-    ensures { OnOk result (string_bytes text.new ≡ string_bytes text.old ++ block_line (call_words functions.now block.now.call) block.now) }
+    ensures { OnOk result (string_bytes text.new ≡ string_bytes text.old ++ block_line (call_words functions.now block.now.call)
+        block.now) }
 {
     push_opened(text, block.function, &block.around)?;
     push_block_words(text, block)?;

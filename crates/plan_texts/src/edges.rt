@@ -148,7 +148,8 @@ fn push_call_to(text: &mut String, from: u32, to: u32, taken: bool) -> Result<()
 
 /// Adds the call at the end of a block, if there is one.
 pub fn push_call(text: &mut String, block: &DrawnBlock) -> Result<(), AllocError>
-    ensures { OnOk result (string_bytes text.new ≡ string_bytes text.old ++ call_line block.now.range.from (list_any is_taken block.now.edges.items) block.now.call) }
+    ensures { OnOk result (string_bytes text.new ≡ string_bytes text.old ++ call_line block.now.range.from
+        (list_any is_taken block.now.edges.items) block.now.call) }
 {
     let taken = any_taken(&block.edges);
     match block.call {

@@ -1,4 +1,4 @@
--- The law of rewritten images, as a statement for the contract of a function.
+-- Scaffold: the law of rewritten images, as a statement for the contract of a function.
 use Rattle.std.specs.Prelude.{◌≡◌, ℕ, ◌<◌, ◌≤◌, Bool, true, List, length, Some, None, Ok}
 use Rattle.scale_base.specs.declared.ranges.Keyed.{Keyed}
 use Rattle.scale_base.specs.Image.{Image, image_of}
@@ -28,13 +28,17 @@ pub record IsSafelyRewrittenBy (power : PowerModel) (image : Image) (notes : Lis
   pub follows : FollowsInTime power image rewritten notes v t (stored_weights power image v (marks_by v t rule)) plain stored bound
 
 -- by the rule of slacks
-abbrev pub IsSafelyRewritten : PowerModel → Image → List LoopNote → FlowGraph → LoopView → (plain stored : Numbers) → (bound start : ℕ) → (file : List ℕ) → Type 0
-IsSafelyRewritten power image notes v t plain stored bound start file = IsSafelyRewrittenBy power image notes v t (by_slack power image v t plain) plain stored bound start file
+abbrev pub IsSafelyRewritten : PowerModel → Image → List LoopNote → FlowGraph → LoopView → (plain stored : Numbers) → (bound start : ℕ) →
+    (file : List ℕ) → Type 0
+IsSafelyRewritten power image notes v t plain stored bound start file = IsSafelyRewrittenBy power image notes v t
+    (by_slack power image v t plain) plain stored bound start file
 
 -- Where a program's worst cycles under the stored weights are in time from a starting level on, and its stubs are in reach.
 abbrev pub RewrittenImagesFollow : Type 0
-RewrittenImagesFollow = (power : PowerModel) → IsPowerModel power → (file : List ℕ) (image : Image) (notes : List LoopNote) (v : FlowGraph) (t : LoopView) (plain stored extra : Numbers) (least : Charged) (sites : List Site) (base start : ℕ)
-    → image_of file ≡ Ok image → image.keyed_segment ≡ None → length file ≤ 4194304 → IsWeighed power image notes v t plain stored → stored.worst 0 ≤ 281474976710656 → slowest_of power (stored.worst 0) ≡ Some start
+RewrittenImagesFollow = (power : PowerModel) → IsPowerModel power → (file : List ℕ) (image : Image) (notes : List LoopNote) (v : FlowGraph)
+    (t : LoopView) (plain stored extra : Numbers) (least : Charged) (sites : List Site) (base start : ℕ)
+    → image_of file ≡ Ok image → image.keyed_segment ≡ None → length file ≤ 4194304 → IsWeighed power image notes v t plain stored →
+    stored.worst 0 ≤ 281474976710656 → slowest_of power (stored.worst 0) ≡ Some start
     → HasStubs power image v t plain stored extra least sites base → out_of_reach base sites ≡ None
     → IsSafelyRewritten power image notes v t plain stored (extra.worst 0) start (rewritten_file image sites base start)
 
@@ -45,15 +49,21 @@ KeepsBudgets power budget rule = (told : EdgeNumbers) (i j : ℕ) → rule.test 
 -- The same for any rule that keeps budgets, from any level within whose budget the worst cycles under the stored weights are.
 abbrev pub BudgetedImagesFollow : Type 0
 BudgetedImagesFollow = (power : PowerModel) → IsPowerModel power → (budget : ℕ → ℕ) (rule : Rule) → KeepsBudgets power budget rule →
-    (file : List ℕ) (image : Image) (notes : List LoopNote) (v : FlowGraph) (t : LoopView) (plain stored extra : Numbers) (least : Charged) (sites : List Site) (base start : ℕ)
-    → image_of file ≡ Ok image → image.keyed_segment ≡ None → length file ≤ 4194304 → IsWeighedBy power image notes v t rule plain stored → start < length power.levels → AreBudgets power budget start (stored.worst 0)
+    (file : List ℕ) (image : Image) (notes : List LoopNote) (v : FlowGraph) (t : LoopView) (plain stored extra : Numbers) (least : Charged)
+    (sites : List Site) (base start : ℕ)
+    → image_of file ≡ Ok image → image.keyed_segment ≡ None → length file ≤ 4194304 → IsWeighedBy power image notes v t rule plain stored →
+    start < length power.levels → AreBudgets power budget start (stored.worst 0)
     → HasStubsBy power image v t rule stored extra least sites base → out_of_reach base sites ≡ None
     → IsSafelyRewrittenBy power image notes v t rule plain stored (extra.worst 0) start (rewritten_file image sites base start)
 
 -- So for any chosen edges of branches and any budgets.
 abbrev pub ChosenImagesFollow : Type 0
 ChosenImagesFollow = (power : PowerModel) → IsPowerModel power → (budget : ℕ → ℕ) (chosen : ℕ → Bool) →
-    (file : List ℕ) (image : Image) (notes : List LoopNote) (v : FlowGraph) (t : LoopView) (plain stored extra : Numbers) (least : Charged) (sites : List Site) (base start : ℕ)
-    → image_of file ≡ Ok image → image.keyed_segment ≡ None → length file ≤ 4194304 → IsWeighedBy power image notes v t (by_choice power budget chosen) plain stored → start < length power.levels → AreBudgets power budget start (stored.worst 0)
+    (file : List ℕ) (image : Image) (notes : List LoopNote) (v : FlowGraph) (t : LoopView) (plain stored extra : Numbers) (least : Charged)
+    (sites : List Site) (base start : ℕ)
+    → image_of file ≡ Ok image → image.keyed_segment ≡ None → length file ≤ 4194304 →
+    IsWeighedBy power image notes v t (by_choice power budget chosen) plain stored → start < length power.levels →
+    AreBudgets power budget start (stored.worst 0)
     → HasStubsBy power image v t (by_choice power budget chosen) stored extra least sites base → out_of_reach base sites ≡ None
-    → IsSafelyRewrittenBy power image notes v t (by_choice power budget chosen) plain stored (extra.worst 0) start (rewritten_file image sites base start)
+    → IsSafelyRewrittenBy power image notes v t (by_choice power budget chosen) plain stored (extra.worst 0) start
+    (rewritten_file image sites base start)

@@ -7,4 +7,5 @@ use Rattle.power_model.specs.Price.{price}
 
 -- what the first n steps of an image cost
 abbrev pub price_of : PowerModel → Image → List ℕ → ℕ → RunPrice
-price_of power image input n = price power (starting_level (length power.levels) image.keyed_segment) (run_of image (length power.levels) input n).steps
+price_of power image input n = price power (starting_level (length power.levels) image.keyed_segment)
+    (run_of image (length power.levels) input n).steps

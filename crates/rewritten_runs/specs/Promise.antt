@@ -21,8 +21,10 @@ pub record EndsAsPromised (power : PowerModel) (original stored : Image) (bound 
   pub exits : (run_of stored (length power.levels) input after).standing ≡ HasExited status
   pub output : (run_of stored (length power.levels) input after).state.output ≡ (run_of original (length power.levels) input n).state.output
   -- it completes as many steps as the original run, and at most so many more; and its cycles are at most so many more
-  pub steps_from : length (run_of original (length power.levels) input n).steps ≤ length (run_of stored (length power.levels) input after).steps
-  pub steps_to : length (run_of stored (length power.levels) input after).steps ≤ length (run_of original (length power.levels) input n).steps + bound
+  pub steps_from : length (run_of original (length power.levels) input n).steps ≤ length
+      (run_of stored (length power.levels) input after).steps
+  pub steps_to : length (run_of stored (length power.levels) input after).steps ≤ length
+      (run_of original (length power.levels) input n).steps + bound
   pub cycles : (price_of power stored input after).cycles ≤ (price_of power original input n).cycles + bound
   -- its level at the start is one of the machine's; stubs and switches are counted
   pub is_level : starting_level (length power.levels) stored.keyed_segment < length power.levels
@@ -33,5 +35,6 @@ pub record EndsAsPromised (power : PowerModel) (original stored : Image) (bound 
 -- on every input
 abbrev pub KeepsThePromise : PowerModel → Image → List LoopNote → Image → ℕ → Type 0
 KeepsThePromise power original notes stored bound = (input : List ℕ) (n status : ℕ)
-    → IsKeptUpTo original (length power.levels) input (noted_loops notes) n → (run_of original (length power.levels) input n).standing ≡ HasExited status
+    → IsKeptUpTo original (length power.levels) input (noted_loops notes) n →
+    (run_of original (length power.levels) input n).standing ≡ HasExited status
     → EndsAsPromised power original stored bound input n status

@@ -96,18 +96,21 @@ loop_of counted counter = slice_index counted (counter - first_counter)
 abbrev pub fragment_by : PowerModel → (tables.EdgeNumbers → ℕ → ℕ → Bool) → Loops → List ℕ → Numbers → tables.EdgeNumbers → Mark → Fragment
 fragment_by power test l counted n told marks.Switch = fragments.Switch (tables.word_by power test told)
 fragment_by power test l counted n told (marks.Exit counter) =
-    fragments.Exit counter (tables.shift_of (l.bound (loop_of counted counter))) (tables.all_rows_by power test (l.bound (loop_of counted counter)) (n.iteration (loop_of counted counter)) told)
+    fragments.Exit counter (tables.shift_of (l.bound (loop_of counted counter)))
+    (tables.all_rows_by power test (l.bound (loop_of counted counter)) (n.iteration (loop_of counted counter)) told)
 fragment_by power test l counted n told (marks.Reset counter) = fragments.Reset counter
 fragment_by power test l counted n told (marks.Count counter) = fragments.Count counter
 fragment_by power test l counted n told marks.Lowest = fragments.Lowest (tables.goes_lowest power test told)
 fragment_by power test l counted n told (marks.Tally counter) =
-    fragments.Tally counter (tables.tally_shift (l.bound (loop_of counted counter))) (tables.tally_from power test (l.bound (loop_of counted counter)) (n.iteration (loop_of counted counter)) told)
+    fragments.Tally counter (tables.tally_shift (l.bound (loop_of counted counter)))
+    (tables.tally_from power test (l.bound (loop_of counted counter)) (n.iteration (loop_of counted counter)) told)
 
 abbrev pub fragment_of : PowerModel → Loops → List ℕ → Numbers → tables.EdgeNumbers → Mark → Fragment
 fragment_of power l counted n told mark = fragment_by power (tables.meets_both power) l counted n told mark
 
 -- by edge, its fragments
-abbrev pub fragments_with : PowerModel → (tables.EdgeNumbers → ℕ → ℕ → Bool) → Image → FlowGraph → LoopView → (ℕ → List Mark) → Numbers → Charged → ℕ → List Fragment
+abbrev pub fragments_with : PowerModel → (tables.EdgeNumbers → ℕ → ℕ → Bool) → Image → FlowGraph → LoopView → (ℕ → List Mark) → Numbers →
+    Charged → ℕ → List Fragment
 fragments_with power test image v t marked n least e =
     map (fragment_by power test (loops v t) (counted_loops t) n (told_at power image v t marked n least e)) (marked e)
 
@@ -201,11 +204,14 @@ pub record HasStubsWith (power : PowerModel) (test : tables.EdgeNumbers → ℕ 
   pub base_is : IsStubBase image (min (block_size sites) 4194304) base
 
 -- the marks and the test of a rule
-abbrev pub HasStubsBy : PowerModel → Image → FlowGraph → LoopView → Rule → (stored extra : Numbers) → Charged → List Site → (base : ℕ) → Type 0
-HasStubsBy power image v t rule stored extra least sites base = HasStubsWith power rule.test image v t (marks_by v t rule) stored extra least sites base
+abbrev pub HasStubsBy : PowerModel → Image → FlowGraph → LoopView → Rule → (stored extra : Numbers) → Charged → List Site → (base : ℕ) →
+    Type 0
+HasStubsBy power image v t rule stored extra least sites base = HasStubsWith power rule.test image v t (marks_by v t rule) stored extra
+    least sites base
 
 abbrev pub HasStubs : PowerModel → Image → FlowGraph → LoopView → (plain stored extra : Numbers) → Charged → List Site → (base : ℕ) → Type 0
-HasStubs power image v t plain stored extra least sites base = HasStubsBy power image v t (by_slack power image v t plain) stored extra least sites base
+HasStubs power image v t plain stored extra least sites base = HasStubsBy power image v t (by_slack power image v t plain) stored extra
+    least sites base
 
 -- ---- what is stored
 

@@ -242,7 +242,8 @@ deadline_label x deadline =
     codes "<text x='" ++ decimal x ++ codes "' y='260' text-anchor='" ++ anchor_at x ++ codes "' fill='#a84300'>deadline " ++ decimal deadline ++ codes "</text>\n"
 
 abbrev pub head_text : Axis → ℕ → List ℕ
-head_text axis height = head_line (height / 10) height ++ pattern_text ++ ground height ++ deadline_label (place axis.end axis.deadline) axis.deadline
+head_text axis height = head_line (height / 10) height ++ pattern_text ++ ground height ++ deadline_label (place axis.end axis.deadline)
+    axis.deadline
 
 -- a tick with its number
 unfoldable pub tick_mark : (x y : ℕ) → List ℕ
@@ -289,7 +290,8 @@ level_x i = 240 + 1140 * i
 
 abbrev pub level_text : List Level → ℕ → ℕ → List ℕ
 level_text levels y i =
-    level_bar (level_x i) y (level_height levels i) (colour (shade_of (length levels) i)) ++ level_words (level_x i + 260) y i (level levels i).period (level levels i).energy
+    level_bar (level_x i) y (level_height levels i) (colour (shade_of (length levels) i)) ++ level_words (level_x i + 260) y i
+    (level levels i).period (level levels i).energy
 
 unfoldable pub legend_head : ℕ → List ℕ
 legend_head y =

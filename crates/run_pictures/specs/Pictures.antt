@@ -28,7 +28,8 @@ pub record IsRunOf (power : PowerModel) (files : DrawnFiles) (run : PictureRun) 
   pub input_name : string_bytes run.input_name ≡ files.input_name.now
   pub report : report_view run.report ≡ report_of power original files.input.now None
   pub bars :
-      AreBarsOf power (starting_level (length power.levels) original.keyed_segment) (run_of original (length power.levels) files.input.now power.steps).steps run.bars.items
+      AreBarsOf power (starting_level (length power.levels) original.keyed_segment)
+      (run_of original (length power.levels) files.input.now power.steps).steps run.bars.items
 
 abbrev pub IsRunOn : PowerModel → DrawnFiles → Result PictureRun Refusal → Type 0
 IsRunOn power files (Ok run) = IsRunOf power files run
@@ -64,9 +65,11 @@ AreRunsDrawn machine files (Err refusal) = (read_machine machine >>= λ power. a
 
 -- The law: what a run reports is what simulating its files gives, and an image is refused as simulating it is.
 abbrev pub RunsAreSimulated : Type 0
-RunsAreSimulated = (machine : List ℕ) (power : PowerModel) (files : DrawnFiles) (run : PictureRun) → read_machine machine ≡ Ok power → IsRunOf power files run
+RunsAreSimulated = (machine : List ℕ) (power : PowerModel) (files : DrawnFiles) (run : PictureRun) → read_machine machine ≡ Ok power →
+    IsRunOf power files run
     → simulated files.image.now machine files.input.now None ≡ Ok (report_view run.report)
 
 abbrev pub RefusalsAreSimulated : Type 0
-RefusalsAreSimulated = (machine : List ℕ) (power : PowerModel) (files : DrawnFiles) (refusal : Refusal) → read_machine machine ≡ Ok power → startable power files.image.now ≡ Err refusal
+RefusalsAreSimulated = (machine : List ℕ) (power : PowerModel) (files : DrawnFiles) (refusal : Refusal) → read_machine machine ≡ Ok power →
+    startable power files.image.now ≡ Err refusal
     → simulated files.image.now machine files.input.now None ≡ Err refusal

@@ -99,4 +99,5 @@ abbrev pub IsWidthOf : (end time width : ℕ) → Type 0
 IsWidthOf end time width = (width * end < time * AXIS_LENGTH + end) × (time * AXIS_LENGTH < width * end + end)
 
 abbrev pub WidthsAreTimes : Type 0
-WidthsAreTimes = (end begin time : ℕ) → 1 ≤ end → begin ≤ time → time ≤ end → IsWidthOf end (time - begin) (place end time - place end begin)
+WidthsAreTimes = (end begin time : ℕ) → 1 ≤ end → begin ≤ time → time ≤ end →
+    IsWidthOf end (time - begin) (place end time - place end begin)

@@ -150,7 +150,8 @@ fn push_rectangle_words(text: &mut String, fill: &str, bar: Bar) -> Result<(), A
 // A rectangle that tells what it stands for.
 #[tactic(auto, unfolding(crate::specs::PictureTexts::rectangle))]
 fn push_rectangle(text: &mut String, area: Area, fill: &str, bar: Bar) -> Result<(), AllocError>
-    ensures { OnOk result (string_bytes text.new ≡ string_bytes text.old ++ rectangle area.x area.y area.width area.height fill.now (told bar.begin bar.end)) }
+    ensures { OnOk result (string_bytes text.new ≡ string_bytes text.old ++ rectangle area.x area.y area.width area.height fill.now
+        (told bar.begin bar.end)) }
 {
     push_rectangle_place(text, area)?;
     push_rectangle_words(text, fill, bar)

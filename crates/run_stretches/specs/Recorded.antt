@@ -1,4 +1,4 @@
--- The bars of a run as they are kept while it goes on, in room for 512 of them.
+-- Scaffold: the bars of a run as they are kept while it goes on, in room for 512 of them.
 use Rattle.std.specs.Prelude.{ℕ, ◌+◌, ◌-◌, ◌/◌, ◌^◌, ◌==◌, ◌&&◌, ◌||◌, Bool, true, cond, nat_lt, not, List, [], ◌∷◌, ◌++◌, length, take, Option, Some, None}
 use Rattle.std.specs.List.{fold}
 use Rattle.std.specs.Option.{option_to_list}

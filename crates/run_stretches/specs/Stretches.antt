@@ -28,7 +28,8 @@ IsStretch level (x ∷ y ∷ steps) = (level_after level x ≡ level) × IsStret
 abbrev pub AreStretchesFrom : ℕ → List (List Stepped) → Type 0
 AreStretchesFrom level [] = Unit {0}
 AreStretchesFrom level (one ∷ []) = IsStretch level one
-AreStretchesFrom level (one ∷ next ∷ more) = IsStretch level one × (level_behind level one ≡ level → ⊥) × AreStretchesFrom (level_behind level one) (next ∷ more)
+AreStretchesFrom level (one ∷ next ∷ more) = IsStretch level one × (level_behind level one ≡ level → ⊥) ×
+    AreStretchesFrom (level_behind level one) (next ∷ more)
 
 -- lists one after another
 abbrev pub joined : {A : Type 0} → List (List A) → List A
@@ -95,7 +96,8 @@ pub record TakeAll (power : PowerModel) (level : ℕ) (steps : List Stepped) (ba
   pub energy : taken_from (λ bar. bar.energy) no_end bars ≡ (price power level steps).energy
 
 abbrev pub BarsTakeTheRun : Type 0
-BarsTakeTheRun = (power : PowerModel) (level : ℕ) (steps : List Stepped) (bars : List BarEnd) → AreBarsOf power level steps bars → TakeAll power level steps bars
+BarsTakeTheRun = (power : PowerModel) (level : ℕ) (steps : List Stepped) (bars : List BarEnd) → AreBarsOf power level steps bars →
+    TakeAll power level steps bars
 
 -- ---- a run
 
@@ -103,4 +105,5 @@ BarsTakeTheRun = (power : PowerModel) (level : ℕ) (steps : List Stepped) (bars
 pub record IsRunDrawn (power : PowerModel) (image : Image) (input : List ℕ) (run : RunBars) : Type 0 where
   pub report : report_view run.report ≡ report_of power image input None
   pub bars :
-      AreBarsOf power (starting_level (length power.levels) image.keyed_segment) (run_of image (length power.levels) input power.steps).steps run.bars.items
+      AreBarsOf power (starting_level (length power.levels) image.keyed_segment)
+      (run_of image (length power.levels) input power.steps).steps run.bars.items

@@ -6,8 +6,9 @@ use crate::tracing::EdgeTrace;
 use crate::walking::{WALKS, WalkPlan, walked};
 use elf_image::ImageView;
 use power_model::Power;
+use run_progress::{Part, Progress};
 use scale_base::{NoMemory, Stop};
-use speed_sim::{End, start_of, watched_report};
+use speed_sim::{End, ImageRun, start_of, watched_with_progress};
 use std::alloc::Global;
 
 /// How many shares a run on an input has, where each walk has as many as there are such runs: three times as many as there are walks.
@@ -24,12 +25,13 @@ pub struct Runs<'a> {
 }
 
 impl Runs<'_> {
-    /// Traces the run on an input. Its cycles, if it exits.
-    fn traced(
+    /// Traces the run on an input. Its cycles, if it exits. How far it is is told.
+    fn traced<P: Progress>(
         &self,
         alloc: Global,
         input: &[u8],
         trace: &mut EdgeTrace,
+        progress: &mut P,
     ) -> Result<Option<u64>, Stop> {
         let view = self.view;
         let power = self.power;
@@ -39,7 +41,8 @@ impl Runs<'_> {
         }
         let start = start_of(levels, view.keyed())?;
         trace.begin();
-        let report = watched_report(alloc, view, power, start, input, trace)?;
+        let given = ImageRun { view, power, start };
+        let report = watched_with_progress(alloc, &given, input, trace, progress)?;
         match report.end {
             End::Exited(_) => Ok(Some(report.meter.cycles)),
             _ => Ok(None),
@@ -47,14 +50,16 @@ impl Runs<'_> {
     }
 
     /// The same for the input at a place.
-    fn traced_at(
+    fn traced_at<P: Progress>(
         &self,
         alloc: Global,
         k: usize,
         trace: &mut EdgeTrace,
+        progress: &mut P,
     ) -> Result<Option<u64>, Stop> {
+        progress.next(Part::Input);
         if k < self.inputs.len() {
-            self.traced(alloc, &self.inputs[k], trace)
+            self.traced(alloc, &self.inputs[k], trace, progress)
         } else {
             Ok(None)
         }
@@ -76,11 +81,18 @@ impl Runs<'_> {
         Ok(())
     }
 
-    /// What the runs do at so many edges, in all.
-    pub fn sums(&self, alloc: Global, edges: usize, trace: &mut EdgeTrace) -> Result<Sums, Stop> {
+    /// What the runs do at so many edges, in all. How far they are is told.
+    pub fn sums<P: Progress>(
+        &self,
+        alloc: Global,
+        edges: usize,
+        trace: &mut EdgeTrace,
+        progress: &mut P,
+    ) -> Result<Sums, Stop> {
         let mut sums = Sums::new(alloc, edges)?;
+        progress.begin(Part::Input, self.places.len());
         for k in self.places {
-            if let Some(cycles) = self.traced_at(alloc, *k, trace)? {
+            if let Some(cycles) = self.traced_at(alloc, *k, trace, progress)? {
                 sums.add(trace, cycles, weight_of(SHARES, cycles));
             }
         }
@@ -111,16 +123,18 @@ impl Runs<'_> {
         Ok(())
     }
 
-    /// What each run does at the candidates.
-    pub fn marks(
+    /// What each run does at the candidates. How far they are is told.
+    pub fn marks<P: Progress>(
         &self,
         alloc: Global,
         watched: &Watched<'_>,
         trace: &mut EdgeTrace,
+        progress: &mut P,
     ) -> Result<Vec<RunMarks>, Stop> {
         let mut runs = Vec::new(alloc);
+        progress.begin(Part::Input, self.places.len());
         for k in self.places {
-            if let Some(cycles) = self.traced_at(alloc, *k, trace)? {
+            if let Some(cycles) = self.traced_at(alloc, *k, trace, progress)? {
                 let run = RunWeight {
                     cycles,
                     weight: weight_of(SHARES, cycles),

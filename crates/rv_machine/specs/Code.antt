@@ -1,4 +1,4 @@
--- Instructions of words that no step can change.
+-- Scaffold: instructions of words that no step can change.
 use Rattle.std.specs.Prelude.{◌≡◌, ℕ, ◌+◌, ◌*◌, ◌/◌, ◌%◌, ◌<◌, ◌==◌, Bool, true, false, List, slice_index_or, Option, Some, None, if◌then◌else◌}
 use Rattle.scale_base.specs.Word.{FieldsInRange}
 use Rattle.scale_base.specs.Reading.{instr_of}
@@ -48,8 +48,10 @@ MayBeFixed layout bytes at (Some d) = IsFixed layout bytes at d
 
 abbrev pub MayBePage : Layout → (ℕ → ℕ) → ℕ → Option CodePage → Type 0
 MayBePage layout bytes n None = Unit {0}
-MayBePage layout bytes n (Some p) = (k : ℕ) (o : Option Decoded) → k < 1024 → o ≡ slice_index_or p.instrs.items k o → MayBeFixed layout bytes (4 * (n * 1024 + k)) o
+MayBePage layout bytes n (Some p) = (k : ℕ) (o : Option Decoded) → k < 1024 → o ≡ slice_index_or p.instrs.items k o →
+    MayBeFixed layout bytes (4 * (n * 1024 + k)) o
 
 abbrev pub MayBeGroup : Layout → (ℕ → ℕ) → ℕ → Option CodeGroup → Type 0
 MayBeGroup layout bytes m None = Unit {0}
-MayBeGroup layout bytes m (Some g) = (j : ℕ) (o : Option CodePage) → j < 1024 → o ≡ slice_index_or g.pages.items j o → MayBePage layout bytes (m * 1024 + j) o
+MayBeGroup layout bytes m (Some g) = (j : ℕ) (o : Option CodePage) → j < 1024 → o ≡ slice_index_or g.pages.items j o →
+    MayBePage layout bytes (m * 1024 + j) o

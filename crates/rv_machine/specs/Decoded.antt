@@ -1,4 +1,4 @@
--- An instruction with what its steps tell, and how a step of it ends.
+-- Scaffold: an instruction with what its steps tell, and how a step of it ends.
 use Rattle.std.specs.Prelude.{◌≡◌, ◌<◌, ℕ, true, false, Option, Some, None}
 use Rattle.scale_base.specs.declared.instruction.Instr.{Instr}
 use Rattle.scale_base.specs.declared.stepping.Class.{Class}

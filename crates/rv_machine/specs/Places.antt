@@ -1,4 +1,4 @@
--- Where instructions may be fetched.
+-- Scaffold: where instructions may be fetched.
 use Rattle.std.specs.Prelude.{◌≡◌, ℕ, ◌<◌, Bool, ◌||◌, Some}
 use Rattle.std.specs.List.{list_any}
 use Rattle.scale_base.specs.declared.ranges.Range.{Range}

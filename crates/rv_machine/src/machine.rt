@@ -50,7 +50,8 @@ impl<M: Memory + Drop> Machine<M> {
         requires level { start < levels }
         requires few { levels ≤ 8 }
         ensures state { IfOk result (λ m. state_of M.bytes m ≡ runs.start (M.bytes memory) entry start) }
-        ensures setting { IfOk result (λ m. machine_setting M.layout m ≡ record { layout = M.layout memory; levels = levels; input = input.items }) }
+        ensures setting { IfOk result (λ m. machine_setting M.layout m ≡ record
+            { layout = M.layout memory; levels = levels; input = input.items }) }
     {
         let output = Vec::with_capacity(alloc, 1 << 20)?;
         let mut regs = [0; 32];

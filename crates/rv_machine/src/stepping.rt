@@ -24,7 +24,8 @@ use scale_base::{Instr, LoadOp, PORT, StepEnd, StoreOp, Trap, TrapKind, WINDOW_S
 #[inline(never)]
 #[tactic(auto, unfolding(scale_base::specs::Step::step))]
 pub fn step<M: Memory>(machine: &mut Machine<M>) -> StepEnd
-    ensures outcome { outcome_of M.bytes result machine.new ≡ steps.step (machine_setting M.layout machine.old) (state_of M.bytes machine.old) }
+    ensures outcome { outcome_of M.bytes result machine.new ≡ steps.step (machine_setting M.layout machine.old)
+        (state_of M.bytes machine.old) }
     ensures setting { machine_setting M.layout machine.new ≡ machine_setting M.layout machine.old }
     ensures port { PortBelow result machine.old.levels }
 {
@@ -41,7 +42,8 @@ pub fn step<M: Memory>(machine: &mut Machine<M>) -> StepEnd
 /// The step of the instruction at the machine's `pc`.
 fn execute<M: Memory>(machine: &mut Machine<M>, instr: Instr) -> StepEnd
     requires { FieldsInRange instr }
-    ensures outcome { outcome_of M.bytes result machine.new ≡ steps.performs (machine_setting M.layout machine.old) (state_of M.bytes machine.old) instr instr }
+    ensures outcome { outcome_of M.bytes result machine.new ≡ steps.performs (machine_setting M.layout machine.old)
+        (state_of M.bytes machine.old) instr instr }
     ensures setting { machine_setting M.layout machine.new ≡ machine_setting M.layout machine.old }
     ensures port { PortBelow result machine.old.levels }
 {
@@ -55,7 +57,8 @@ fn execute<M: Memory>(machine: &mut Machine<M>, instr: Instr) -> StepEnd
 #[inline(always)]
 pub fn step_decoded<M: Memory>(machine: &mut Machine<M>, known: &Decoded) -> Effect
     requires { IsFixed (M.layout machine.old.memory) (M.bytes machine.old.memory) machine.old.pc known.now }
-    ensures outcome { outcome_of M.bytes (decoded_end known.now machine.old.pc result machine.new.pc) machine.new ≡ steps.step (machine_setting M.layout machine.old) (state_of M.bytes machine.old) }
+    ensures outcome { outcome_of M.bytes (decoded_end known.now machine.old.pc result machine.new.pc) machine.new ≡ steps.step
+        (machine_setting M.layout machine.old) (state_of M.bytes machine.old) }
     ensures setting { machine_setting M.layout machine.new ≡ machine_setting M.layout machine.old }
     ensures level { LevelBelow result machine.old.levels }
 {
@@ -97,7 +100,8 @@ pub fn set_reg<M: Memory>(machine: &mut Machine<M>, rd: u8, value: u32)
 #[inline(always)]
 fn set<M: Memory>(machine: &mut Machine<M>, rd: u8, value: u32)
     requires { rd < 32 }
-    ensures state { state_of M.bytes machine.new ≡ record (state_of M.bytes machine.old) { pc = steps.pc_after (state_of M.bytes machine.old); regs = with_reg machine.old.regs rd value } }
+    ensures state { state_of M.bytes machine.new ≡ record (state_of M.bytes machine.old)
+        { pc = steps.pc_after (state_of M.bytes machine.old); regs = with_reg machine.old.regs rd value } }
     ensures setting { machine_setting M.layout machine.new ≡ machine_setting M.layout machine.old }
 {
     set_reg(machine, rd, value);
@@ -107,7 +111,8 @@ fn set<M: Memory>(machine: &mut Machine<M>, rd: u8, value: u32)
 #[inline(always)]
 fn jump<M: Memory>(machine: &mut Machine<M>, rd: u8, target: u32) -> Effect
     requires { rd < 32 }
-    ensures outcome { (i : Instr) → outcome_of M.bytes (end_by (machine_setting M.layout machine.old) (state_of M.bytes machine.old) i result machine.new.pc) machine.new ≡ steps.jumps (machine_setting M.layout machine.old) (state_of M.bytes machine.old) i rd target }
+    ensures outcome { (i : Instr) → outcome_of M.bytes (end_by (machine_setting M.layout machine.old) (state_of M.bytes machine.old) i
+        result machine.new.pc) machine.new ≡ steps.jumps (machine_setting M.layout machine.old) (state_of M.bytes machine.old) i rd target }
     ensures setting { machine_setting M.layout machine.new ≡ machine_setting M.layout machine.old }
     ensures level { LevelBelow result machine.old.levels }
 {
@@ -122,7 +127,9 @@ fn jump<M: Memory>(machine: &mut Machine<M>, rd: u8, target: u32) -> Effect
 
 #[inline(always)]
 fn branch<M: Memory>(machine: &mut Machine<M>, taken: bool, target: u32) -> Effect
-    ensures outcome { (i : Instr) → outcome_of M.bytes (end_by (machine_setting M.layout machine.old) (state_of M.bytes machine.old) i result machine.new.pc) machine.new ≡ steps.branches (machine_setting M.layout machine.old) (state_of M.bytes machine.old) i taken target }
+    ensures outcome { (i : Instr) → outcome_of M.bytes (end_by (machine_setting M.layout machine.old) (state_of M.bytes machine.old) i
+        result machine.new.pc) machine.new ≡ steps.branches (machine_setting M.layout machine.old) (state_of M.bytes machine.old) i taken
+        target }
     ensures setting { machine_setting M.layout machine.new ≡ machine_setting M.layout machine.old }
     ensures level { LevelBelow result machine.old.levels }
 {
@@ -167,7 +174,8 @@ fn loaded<M: Memory>(memory: &M, op: LoadOp, at: u32) -> u32
 #[inline(always)]
 fn load<M: Memory>(machine: &mut Machine<M>, op: LoadOp, rd: u8, at: u32) -> Effect
     requires { rd < 32 }
-    ensures outcome { (i : Instr) → outcome_of M.bytes (end_by (machine_setting M.layout machine.old) (state_of M.bytes machine.old) i result machine.new.pc) machine.new ≡ steps.loads (machine_setting M.layout machine.old) (state_of M.bytes machine.old) i op rd at }
+    ensures outcome { (i : Instr) → outcome_of M.bytes (end_by (machine_setting M.layout machine.old) (state_of M.bytes machine.old) i
+        result machine.new.pc) machine.new ≡ steps.loads (machine_setting M.layout machine.old) (state_of M.bytes machine.old) i op rd at }
     ensures setting { machine_setting M.layout machine.new ≡ machine_setting M.layout machine.old }
     ensures level { LevelBelow result machine.old.levels }
 {
@@ -228,7 +236,9 @@ fn put<M: Memory>(memory: &mut M, op: StoreOp, at: u32, value: u32)
 #[inline(always)]
 fn store_word<M: Memory>(machine: &mut Machine<M>, at: u32, value: u32) -> Effect
     requires { IsTrue (rules.in_window at) }
-    ensures outcome { (i : Instr) → outcome_of M.bytes (end_by (machine_setting M.layout machine.old) (state_of M.bytes machine.old) i result machine.new.pc) machine.new ≡ steps.stores_word (machine_setting M.layout machine.old) (state_of M.bytes machine.old) i at value }
+    ensures outcome { (i : Instr) → outcome_of M.bytes (end_by (machine_setting M.layout machine.old) (state_of M.bytes machine.old) i
+        result machine.new.pc) machine.new ≡ steps.stores_word (machine_setting M.layout machine.old) (state_of M.bytes machine.old) i at
+        value }
     ensures setting { machine_setting M.layout machine.new ≡ machine_setting M.layout machine.old }
     ensures level { LevelBelow result machine.old.levels }
 {
@@ -247,7 +257,9 @@ fn store_word<M: Memory>(machine: &mut Machine<M>, at: u32, value: u32) -> Effec
 
 #[inline(always)]
 fn store<M: Memory>(machine: &mut Machine<M>, op: StoreOp, at: u32, value: u32) -> Effect
-    ensures outcome { (i : Instr) → outcome_of M.bytes (end_by (machine_setting M.layout machine.old) (state_of M.bytes machine.old) i result machine.new.pc) machine.new ≡ steps.stores (machine_setting M.layout machine.old) (state_of M.bytes machine.old) i op at value }
+    ensures outcome { (i : Instr) → outcome_of M.bytes (end_by (machine_setting M.layout machine.old) (state_of M.bytes machine.old) i
+        result machine.new.pc) machine.new ≡ steps.stores (machine_setting M.layout machine.old) (state_of M.bytes machine.old) i op at
+        value }
     ensures setting { machine_setting M.layout machine.new ≡ machine_setting M.layout machine.old }
     ensures level { LevelBelow result machine.old.levels }
 {
@@ -270,7 +282,8 @@ fn store<M: Memory>(machine: &mut Machine<M>, op: StoreOp, at: u32, value: u32) 
 /// A step that changes nothing but the pc.
 #[inline(always)]
 fn pass<M: Memory>(machine: &mut Machine<M>)
-    ensures state { state_of M.bytes machine.new ≡ record (state_of M.bytes machine.old) { pc = steps.pc_after (state_of M.bytes machine.old) } }
+    ensures state { state_of M.bytes machine.new ≡ record (state_of M.bytes machine.old)
+        { pc = steps.pc_after (state_of M.bytes machine.old) } }
     ensures setting { machine_setting M.layout machine.new ≡ machine_setting M.layout machine.old }
 {
     machine.pc = machine.pc.wrapping_add(4);
@@ -280,7 +293,9 @@ fn pass<M: Memory>(machine: &mut Machine<M>)
 #[inline(always)]
 fn perform<M: Memory>(machine: &mut Machine<M>, instr: &Instr) -> Effect
     requires { FieldsInRange instr.now }
-    ensures outcome { outcome_of M.bytes (end_by (machine_setting M.layout machine.old) (state_of M.bytes machine.old) instr.now result machine.new.pc) machine.new ≡ steps.performs (machine_setting M.layout machine.old) (state_of M.bytes machine.old) instr.now instr.now }
+    ensures outcome { outcome_of M.bytes (end_by (machine_setting M.layout machine.old) (state_of M.bytes machine.old) instr.now result
+        machine.new.pc) machine.new ≡ steps.performs (machine_setting M.layout machine.old) (state_of M.bytes machine.old) instr.now
+        instr.now }
     ensures setting { machine_setting M.layout machine.new ≡ machine_setting M.layout machine.old }
     ensures level { LevelBelow result machine.old.levels }
 {

@@ -205,11 +205,13 @@ holds_part part h =
 abbrev pub is_off_table : List ℕ → TextPart → Bool
 is_off_table file part =
     not (has_sections file)
-    || (nat_le 46 (e_shoff file) && (nat_le (part.place + part.span.len) (e_shoff file) || nat_le (e_shoff file + 40 * e_shnum file) part.place))
+    || (nat_le 46 (e_shoff file) && (nat_le (part.place + part.span.len) (e_shoff file) || nat_le (e_shoff file + 40 * e_shnum file)
+    part.place))
 
 abbrev pub is_text_place : List ℕ → List ProgramHeader → TextPart → Bool
 is_text_place file segments part =
-    (part.span.from % 4 == 0) && (part.span.len % 4 == 0) && list_any (holds_part part) segments && nat_le 52 part.place && is_off_table file part
+    (part.span.from % 4 == 0) && (part.span.len % 4 == 0) && list_any (holds_part part) segments && nat_le 52 part.place && is_off_table
+    file part
 
 abbrev pub are_apart : TextPart → TextPart → Bool
 are_apart a b = not (overlap a.span b.span)
@@ -329,7 +331,8 @@ covers at s = in_span (addresses_of s) at
 
 -- the byte that a segment loads at the address
 abbrev pub segment_byte : ℕ → LoadSegment → ℕ
-segment_byte at s = if nat_lt (at - s.from) (length s.file) && not (is_zeroed (s.file_at + (at - s.from))) then byte_at s.file (at - s.from) else 0
+segment_byte at s = if nat_lt (at - s.from) (length s.file) && not (is_zeroed (s.file_at + (at - s.from))) then byte_at s.file
+    (at - s.from) else 0
 
 abbrev pub byte_in : ℕ → Option LoadSegment → ℕ
 byte_in at None = 0

@@ -38,7 +38,8 @@ is_named name strings table k = not (list_half_at table (16 * k + 14) == 0) && s
 
 -- the value of the first entry after entry 0 with the name
 abbrev pub value_in : List ℕ → List ℕ → List ℕ → Option ℕ
-value_in name strings table = option_map (λ k. list_word_at table (16 * k + 4)) (find (is_named name strings table) (range_with_len 1 (length table / 16 - 1)))
+value_in name strings table = option_map (λ k. list_word_at table (16 * k + 4))
+    (find (is_named name strings table) (range_with_len 1 (length table / 16 - 1)))
 
 abbrev pub symbol_in : List ℕ → List ℕ → Option SectionHeader → Option ℕ
 symbol_in file name None = None

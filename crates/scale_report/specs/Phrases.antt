@@ -1,4 +1,4 @@
--- What the phrases of refusals say: words, and what they name.
+-- Scaffold: what the phrases of refusals say: words, and what they name.
 use Rattle.std.specs.Prelude.{codes, ℕ, List, ◌++◌}
 use Rattle.std.specs.Fmt.{decimal}
 use Rattle.scale_report.specs.declared.refusals.Phrase.{Phrase}

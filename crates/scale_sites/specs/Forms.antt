@@ -79,7 +79,8 @@ IsFirstAlone ms = All IsQuietMark (behind_first ms)
 
 -- The law: on accepted loops at most the first mark of an edge stores at the port.
 abbrev pub MarksStoreFirst : Type 0
-MarksStoreFirst = (g : Graph) (l : Loops) (extent : ℕ → ℕ → Bool) (counted : List ℕ) → IsProgram g → AreAccepted g l extent → AreLoopsOnce l counted → AreDistinctLoops counted
+MarksStoreFirst = (g : Graph) (l : Loops) (extent : ℕ → ℕ → Bool) (counted : List ℕ) → IsProgram g → AreAccepted g l extent →
+    AreLoopsOnce l counted → AreDistinctLoops counted
     → (e : ℕ) (branch : Bool) (slack min_gain : ℕ) → e < g.edges → IsFirstAlone (marks_of g l counted branch slack min_gain e)
 
 -- The law: where at most the first mark stores at the port, the same is so of what stands for the marks.
@@ -109,5 +110,6 @@ counter_behind w (m ∷ ms) x = counter_behind w ms (counter_after m w x)
 
 -- The law: where the marks add one to the counter that is tallied, what stands for them does to each counter what they do.
 abbrev pub FormedCountsAlike : Type 0
-FormedCountsAlike = (lowest : Bool) (tallied : ℕ → Bool) (ms : List Mark) → ((i : ℕ) → first_tally tallied ms ≡ Some i → (y : ℕ) → counter_behind i ms y ≡ y + 1)
+FormedCountsAlike = (lowest : Bool) (tallied : ℕ → Bool) (ms : List Mark) → ((i : ℕ) → first_tally tallied ms ≡ Some i → (y : ℕ) →
+    counter_behind i ms y ≡ y + 1)
     → (w x : ℕ) → counter_behind w (formed lowest tallied ms) x ≡ counter_behind w ms x

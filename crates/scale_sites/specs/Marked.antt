@@ -1,4 +1,4 @@
--- What is known of a graph, its loops and those that are counted, wherever edges are marked.
+-- Scaffold: what is known of a graph, its loops and those that are counted, wherever edges are marked.
 use Rattle.std.specs.Prelude.{ℕ, Bool, List, length, ◌≤◌}
 use Rattle.flow_graph.specs.FlowGraph.{FlowGraph, IsFlowGraph}
 use Rattle.loop_forest.specs.Tree.{LoopView, IsLoopTree}

@@ -52,7 +52,8 @@ exits_from l u p counted i (k ∷ ks) = mark_if (is_outermost l u p k counted) (
 
 abbrev pub resets_from : Loops → ℕ → Option ℕ → List ℕ → ℕ → List ℕ → List Mark
 resets_from l u p counted i [] = []
-resets_from l u p counted i (k ∷ ks) = mark_if (leaves l k u p && not (is_outermost l u p k counted)) (Reset i) ++ resets_from l u p counted (i + 1) ks
+resets_from l u p counted i (k ∷ ks) = mark_if (leaves l k u p && not (is_outermost l u p k counted)) (Reset i) ++ resets_from l u p
+    counted (i + 1) ks
 
 abbrev pub counts_from : Loops → ℕ → Option ℕ → ℕ → List ℕ → List Mark
 counts_from l u p i [] = []
@@ -86,5 +87,7 @@ AreDistinctLoops (k ∷ ks) = (IsListedLoop k ks → ⊥) × AreDistinctLoops ks
 
 -- The law: on accepted loops at most one mark of an edge is a switch.
 abbrev pub SwitchesOnce : Type 0
-SwitchesOnce = (g : Graph) (l : Loops) (extent : ℕ → ℕ → Bool) (counted : List ℕ) → IsProgram g → AreAccepted g l extent → AreLoopsOnce l counted → AreDistinctLoops counted
-    → (e : ℕ) (branch : Bool) (slack min_gain i : ℕ) → e < g.edges → length (switch_of l (g.source e) (g.target e) counted branch slack min_gain ++ exits_from l (g.source e) (g.target e) counted i counted) ≤ 1
+SwitchesOnce = (g : Graph) (l : Loops) (extent : ℕ → ℕ → Bool) (counted : List ℕ) → IsProgram g → AreAccepted g l extent →
+    AreLoopsOnce l counted → AreDistinctLoops counted
+    → (e : ℕ) (branch : Bool) (slack min_gain i : ℕ) → e < g.edges → length (switch_of l (g.source e) (g.target e) counted branch slack
+    min_gain ++ exits_from l (g.source e) (g.target e) counted i counted) ≤ 1

@@ -87,4 +87,5 @@ extra_weight g costs branch marks e = extra_of costs (jumps_of g branch marks e)
 
 -- The law: the extra cycles of a branch's edge with a switch are a jump, those up to the port store, and the tail.
 abbrev pub ExtraSplits : Type 0
-ExtraSplits = (costs : Costs) (ms : List Mark) → switches ms ≡ true → extra_of costs 2 ms ≡ costs.jump + first_store costs ms + tail_of costs ms
+ExtraSplits = (costs : Costs) (ms : List Mark) → switches ms ≡ true → extra_of costs 2 ms ≡ costs.jump + first_store costs ms + tail_of
+    costs ms

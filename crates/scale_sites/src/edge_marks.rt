@@ -82,7 +82,8 @@ fn push_exits(
     requires marking { IsMarkableGraph marking.now }
     requires counters { counter + length rest.now ≤ 600 }
     requires rest_below { AreBelow (length marking.now.tree.now.headers) rest.now }
-    ensures { OnOk result (marks.new.items ≡ marks.old.items ++ exits_from (numbered marking.now.tree.now) way.from way.to marking.now.counted.now counter rest.now) }
+    ensures { OnOk result (marks.new.items ≡ marks.old.items ++ exits_from (numbered marking.now.tree.now) way.from way.to
+        marking.now.counted.now counter rest.now) }
 {
     let Some((k, behind)) = rest.split_first() else {
         return Ok(());
@@ -104,7 +105,8 @@ fn push_resets(
     requires marking { IsMarkableGraph marking.now }
     requires counters { counter + length rest.now ≤ 600 }
     requires rest_below { AreBelow (length marking.now.tree.now.headers) rest.now }
-    ensures { OnOk result (marks.new.items ≡ marks.old.items ++ resets_from (numbered marking.now.tree.now) way.from way.to marking.now.counted.now counter rest.now) }
+    ensures { OnOk result (marks.new.items ≡ marks.old.items ++ resets_from (numbered marking.now.tree.now) way.from way.to
+        marking.now.counted.now counter rest.now) }
 {
     let Some((k, behind)) = rest.split_first() else {
         return Ok(());
@@ -145,7 +147,8 @@ pub fn edge_marks(
     slack: u64,
 ) -> Result<Vec<Mark>, NoMemory>
     requires { IsMarkableGraph marking.now }
-    ensures { IfOk result (λ m. m.items ≡ marks_at (numbered marking.now.tree.now) marking.now.counted.now branch slack marking.now.min_gain way.from way.to) }
+    ensures { IfOk result (λ m. m.items ≡ marks_at (numbered marking.now.tree.now) marking.now.counted.now branch slack
+        marking.now.min_gain way.from way.to) }
 {
     let mut marks = Vec::new(alloc);
     if branch

@@ -106,7 +106,8 @@ fn marks_of_edge(
 ) -> Result<Vec<Mark>, NoMemory>
     requires marking { IsMarkableGraph marking.now }
     requires edge { e < length marking.now.graph.now.code.edges }
-    ensures marks { IfOk result (λ m. m.items ≡ marks_of (graph_seen marking.now.graph.now) (loops marking.now.graph.now marking.now.tree.now) marking.now.counted.now may slack marking.now.min_gain e) }
+    ensures marks { IfOk result (λ m. m.items ≡ marks_of (graph_seen marking.now.graph.now)
+        (loops marking.now.graph.now marking.now.tree.now) marking.now.counted.now may slack marking.now.min_gain e) }
     ensures few { IfOk result (λ m. length m.items ≤ 1600) }
 {
     let way = Way {
@@ -125,7 +126,8 @@ fn all_marks(
 ) -> Result<Vec<Vec<Mark>>, NoMemory>
     requires marking { IsMarkableGraph marking.now }
     requires slacks { length slacks.now ≡ length marking.now.graph.now.code.edges }
-    ensures { IfOk result (λ marks. AreMarks marking.now.graph.now marking.now.tree.now marking.now.counted.now slacks.now marking.now.min_gain (length marking.now.graph.now.code.edges) (map (λ m. m.items) marks.items)) }
+    ensures { IfOk result (λ marks. AreMarks marking.now.graph.now marking.now.tree.now marking.now.counted.now slacks.now
+        marking.now.min_gain (length marking.now.graph.now.code.edges) (map (λ m. m.items) marks.items)) }
 {
     let mut marks = Vec::new(alloc);
     for e in 0..marking.graph.edge_count() {
@@ -144,7 +146,8 @@ fn wanted_marks(
     requires marking { IsMarkableGraph marking.now }
     requires no_gain { marking.now.min_gain ≡ 0 }
     requires wanted { length wanted.now ≡ length marking.now.graph.now.code.edges }
-    ensures { IfOk result (λ marks. AreMarksBy (marks_where marking.now.graph.now marking.now.tree.now marking.now.counted.now (flag_at wanted.now)) (length marking.now.graph.now.code.edges) (map (λ m. m.items) marks.items)) }
+    ensures { IfOk result (λ marks. AreMarksBy (marks_where marking.now.graph.now marking.now.tree.now marking.now.counted.now
+        (flag_at wanted.now)) (length marking.now.graph.now.code.edges) (map (λ m. m.items) marks.items)) }
 {
     let mut marks = Vec::new(alloc);
     for e in 0..marking.graph.edge_count() {
@@ -259,7 +262,8 @@ fn formed_marks(
     lowest: &[bool],
     tallied: &[bool],
 ) -> Result<Vec<Vec<Mark>>, NoMemory>
-    ensures { IfOk result (λ marks. AreMarksBy (formed_where lowest.now tallied.now (marks_at_edge sites.now)) (length sites.now.marks) (map (λ m. m.items) marks.items)) }
+    ensures { IfOk result (λ marks. AreMarksBy (formed_where lowest.now tallied.now (marks_at_edge sites.now)) (length sites.now.marks)
+        (map (λ m. m.items) marks.items)) }
 {
     let mut marks = Vec::new(alloc);
     for e in 0..sites.count() {
@@ -279,7 +283,8 @@ pub fn form_sites(
 ) -> Result<Sites, NoMemory>
     requires flow { IsFlowGraph graph.now }
     requires edges { length sites.marks ≡ length graph.now.code.edges }
-    ensures { IfOk result (λ s. (marked : ℕ → List Mark) → AreSitesBy graph.now marked sites → AreSitesBy graph.now (formed_where lowest.now tallied.now marked) s) }
+    ensures { IfOk result (λ s. (marked : ℕ → List Mark) → AreSitesBy graph.now marked sites →
+        AreSitesBy graph.now (formed_where lowest.now tallied.now marked) s) }
 {
     let marks = formed_marks(alloc, &sites, lowest, tallied)?;
     let jumps = all_jumps(alloc, graph, &marks)?;
@@ -315,7 +320,8 @@ impl Sites {
     ) -> Result<Weights, NoMemory>
         requires { length self.now.marks ≡ length graph.now.code.edges }
         ensures size { IfOk result (λ w. length w ≡ length graph.now.code.edges) }
-        ensures each { IfOk result (λ w. (e : ℕ) → e < length graph.now.code.edges → slice_index w e ≡ extra_of costs.now (slice_index self.now.jumps e) (marks_at_edge self.now e)) }
+        ensures each { IfOk result (λ w. (e : ℕ) → e < length graph.now.code.edges →
+            slice_index w e ≡ extra_of costs.now (slice_index self.now.jumps e) (marks_at_edge self.now e)) }
     {
         let mut weights = Vec::new(alloc);
         for e in 0..graph.edge_count() {
@@ -334,7 +340,9 @@ impl Sites {
         requires edges { length self.now.marks ≡ length graph.now.code.edges }
         requires classes { length graph.now.classes ≡ length graph.now.code.edges }
         ensures size { IfOk result (λ w. length w ≡ length graph.now.code.edges) }
-        ensures each { IfOk result (λ w. (e : ℕ) → e < length graph.now.code.edges → slice_index w e ≡ slice_index (map (cost_of (cycles_of costs.now)) graph.now.classes) e + extra_of costs.now (slice_index self.now.jumps e) (marks_at_edge self.now e)) }
+        ensures each { IfOk result (λ w. (e : ℕ) → e < length graph.now.code.edges →
+            slice_index w e ≡ slice_index (map (cost_of (cycles_of costs.now)) graph.now.classes) e + extra_of costs.now
+            (slice_index self.now.jumps e) (marks_at_edge self.now e)) }
         ensures small { IfOk result (λ w. (e : ℕ) → e < length graph.now.code.edges → slice_index w e ≤ 4294967295) }
     {
         small_costs(costs);

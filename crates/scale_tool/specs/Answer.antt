@@ -133,7 +133,8 @@ Makes (Simulate image machine input out (Some loops)) (i ∷ m ∷ n ∷ l ∷ [
 Makes (Make number size prefix) [] answer = MakesMade number size prefix answer
 Makes (Lower image jumps out) (i ∷ j ∷ []) answer = AreBytes i × Tells (IsLowered i j) (stored_answer lowered_text out) answer
 Makes (Check image foreign machine loops) (i ∷ f ∷ m ∷ l ∷ []) answer = AreBytes f × Tells (IsChecked i f m l) verdict_answer answer
-Makes (Survey image scaled machine loops inputs) (i ∷ s ∷ m ∷ l ∷ given) answer = Tells (IsSurveyed i s m l given) (text_answer survey_text) answer
+Makes (Survey image scaled machine loops inputs) (i ∷ s ∷ m ∷ l ∷ given) answer =
+    Tells (IsSurveyed i s m l given) (text_answer survey_text) answer
 Makes (Tune image machine loops out inputs) (i ∷ m ∷ l ∷ given) answer = Tells (IsTuning i m l given) (stored_answer tuned_text out) answer
 Makes command files answer = ⊥
 

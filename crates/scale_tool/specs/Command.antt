@@ -102,7 +102,8 @@ wants_of (Simulate image machine input out loops) = (image, 8388608) ∷ (machin
 wants_of (Make number size prefix) = []
 wants_of (Lower image jumps out) = (image, 4194304) ∷ (jumps, 1048576) ∷ []
 wants_of (Check image foreign machine loops) = (image, 4194304) ∷ (foreign, 8388608) ∷ (machine, 1048576) ∷ (loops, 1048576) ∷ []
-wants_of (Survey image scaled machine loops inputs) = (image, 4194304) ∷ (scaled, 8388608) ∷ (machine, 1048576) ∷ (loops, 1048576) ∷ input_wants inputs
+wants_of (Survey image scaled machine loops inputs) = (image, 4194304) ∷ (scaled, 8388608) ∷ (machine, 1048576) ∷ (loops, 1048576) ∷
+    input_wants inputs
 wants_of (Tune image machine loops out inputs) = (image, 4194304) ∷ (machine, 1048576) ∷ (loops, 1048576) ∷ input_wants inputs
 
 -- the files that are loaded for what was asked: none for words that are no command

@@ -14,10 +14,12 @@ use Rattle.scale_tool.specs.Command.{Command, Check, wants_of}
 -- was printed.
 abbrev pub PassesRewritten : Command → List (List ℕ) → ℕ → HostState → HostState → Type 0
 PassesRewritten (Check image foreign machine loops) (i ∷ f ∷ m ∷ l ∷ []) status old new =
-    (summary : Summary) → IsRewritten i m l (Ok ((f, summary))) → (status ≡ 0) × IsDelivered [] (verdict_text (Yes (checked_as summary))) old new
+    (summary : Summary) → IsRewritten i m l (Ok ((f, summary))) → (status ≡ 0) ×
+    IsDelivered [] (verdict_text (Yes (checked_as summary))) old new
 PassesRewritten command files status old new = Unit {0}
 
 -- the same where the files are told, and there is a command whose files are all there and within their limits
 abbrev pub Passes : Option Command → ℕ → HostState → HostState → Type 0
 Passes asked status old new =
-    IfSome old.files (λ files. IfSome asked (λ command. IfWhole (loading_of (wants_of command) files) (λ loaded. PassesRewritten command loaded status old new)))
+    IfSome old.files (λ files. IfSome asked (λ command. IfWhole (loading_of (wants_of command) files)
+    (λ loaded. PassesRewritten command loaded status old new)))

@@ -30,7 +30,8 @@ VerdictPromise image foreign machine loops =
 -- Of a survey: whatever may be printed for the loaded files says so of their runs, what was printed among it.
 abbrev pub SurveyPromise : (image scaled machine loops : List ℕ) → List (List ℕ) → Type 0
 SurveyPromise image scaled machine loops inputs =
-    (printed : SurveyOfRuns) → IsSurveyed image scaled machine loops inputs (Ok printed) → SaysOfRuns image scaled machine loops inputs printed
+    (printed : SurveyOfRuns) → IsSurveyed image scaled machine loops inputs (Ok printed) →
+    SaysOfRuns image scaled machine loops inputs printed
 
 -- of `make`: the files of the program of this number and size stand, and beside them what `rewrite` gives for them
 pub record MadePromise (number size : ℕ) (prefix : List ℕ) (after : Files) : Type 0 where
@@ -55,12 +56,14 @@ pub record MadePromise (number size : ℕ) (prefix : List ℕ) (after : Files) :
 -- image that `hold` stores.
 abbrev pub Promise : Command → List (List ℕ) → Files → Type 0
 Promise (Hold image machine loops out) (i ∷ m ∷ l ∷ []) after = StoredPromise (IsHeld i m l) (IsHeldSafely i m l) (get after out)
-Promise (Rewrite image machine loops out) (i ∷ m ∷ l ∷ []) after = StoredPromise (IsRewritten i m l) (IsRewrittenSafely i m l) (get after out)
+Promise (Rewrite image machine loops out) (i ∷ m ∷ l ∷ []) after = StoredPromise (IsRewritten i m l) (IsRewrittenSafely i m l)
+    (get after out)
 Promise (Make number size prefix) [] after = MadePromise number size prefix after
 Promise (Lower image jumps out) (i ∷ j ∷ []) after = StoredPromise (IsLowered i j) (IsLoweredSafely i j) (get after out)
 Promise (Check image foreign machine loops) (i ∷ f ∷ m ∷ l ∷ []) after = VerdictPromise i f m l
 Promise (Survey image scaled machine loops inputs) (i ∷ s ∷ m ∷ l ∷ given) after = SurveyPromise i s m l given
-Promise (Tune image machine loops out inputs) (i ∷ m ∷ l ∷ given) after = StoredPromise (IsTuning i m l given) (IsTunedSafely i m l) (get after out)
+Promise (Tune image machine loops out inputs) (i ∷ m ∷ l ∷ given) after = StoredPromise (IsTuning i m l given) (IsTunedSafely i m l)
+    (get after out)
 Promise command files after = Unit {0}
 
 -- what is promised for what was asked, and nothing for words that are no command

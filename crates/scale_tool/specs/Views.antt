@@ -1,4 +1,4 @@
--- What the program's values stand for.
+-- Scaffold: what the program's values stand for.
 use Rattle.std.specs.Prelude.{List, option_map}
 use Rattle.scale_base.specs.declared.plan.ScalePlan.{ScalePlan}
 use Rattle.scale_base.specs.declared.plan.SiteLine.{SiteLine}

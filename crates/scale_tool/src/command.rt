@@ -320,7 +320,8 @@ fn program_wants<'a>(
     loops: &'a str,
     inputs: &'a [String],
 ) -> Result<Vec<Want<'a>>, AllocError>
-    ensures { IfOk result (λ wants. want_views wants.items ≡ (image.now, 4194304) ∷ (machine.now, 1048576) ∷ (loops.now, 1048576) ∷ input_wants (texts inputs.now)) }
+    ensures { IfOk result (λ wants. want_views wants.items ≡ (image.now, 4194304) ∷ (machine.now, 1048576) ∷ (loops.now, 1048576) ∷
+        input_wants (texts inputs.now)) }
 {
     let mut wants = vec![in alloc;
         want(image, IMAGE_LIMIT),
@@ -340,7 +341,8 @@ fn pair_wants<'a>(
     loops: &'a str,
     inputs: &'a [String],
 ) -> Result<Vec<Want<'a>>, AllocError>
-    ensures { IfOk result (λ wants. want_views wants.items ≡ (image.now, 4194304) ∷ (other.now, 8388608) ∷ (machine.now, 1048576) ∷ (loops.now, 1048576) ∷ input_wants (texts inputs.now)) }
+    ensures { IfOk result (λ wants. want_views wants.items ≡ (image.now, 4194304) ∷ (other.now, 8388608) ∷ (machine.now, 1048576) ∷
+        (loops.now, 1048576) ∷ input_wants (texts inputs.now)) }
 {
     let mut wants = vec![in alloc;
         want(image, IMAGE_LIMIT),
@@ -360,7 +362,8 @@ fn run_wants<'a>(
     input: &'a str,
     loops: Option<&'a str>,
 ) -> Result<Vec<Want<'a>>, AllocError>
-    ensures { IfOk result (λ wants. want_views wants.items ≡ (image.now, 8388608) ∷ (machine.now, 1048576) ∷ (input.now, 1048576) ∷ loop_wants (option_map (λ l. l.now) loops.entry)) }
+    ensures { IfOk result (λ wants. want_views wants.items ≡ (image.now, 8388608) ∷ (machine.now, 1048576) ∷ (input.now, 1048576) ∷
+        loop_wants (option_map (λ l. l.now) loops.entry)) }
 {
     let mut wants = vec![in alloc;
         want(image, RUN_LIMIT),

@@ -52,7 +52,8 @@ fn text_of(
     first: &RunReport,
     second: &RunReport,
 ) -> Result<String, NoMemory>
-    ensures { IfOk result (λ text. string_bytes text ≡ summary_text summary.now ++ run_text (report_view first.now) ++ run_text (report_view second.now)) }
+    ensures { IfOk result (λ text. string_bytes text ≡ summary_text summary.now ++ run_text (report_view first.now) ++ run_text
+        (report_view second.now)) }
 {
     let mut text = summary_text(alloc, summary)?;
     text.push_str(run_text(alloc, first)?.as_str())?;
@@ -69,7 +70,8 @@ fn reply_of(
     first: &RunReport,
     second: &RunReport,
 ) -> Result<Reply, NoMemory>
-    ensures { IfOk result (λ reply. reply_view reply ≡ runs_answer prefix.now (made_view made) (file_view scaled) (report_view first.now) (report_view second.now)) }
+    ensures { IfOk result (λ reply. reply_view reply ≡ runs_answer prefix.now (made_view made) (file_view scaled) (report_view first.now)
+        (report_view second.now)) }
 {
     let (bytes, summary) = scaled;
     Ok(Reply {

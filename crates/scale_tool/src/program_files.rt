@@ -35,7 +35,8 @@ impl<'a> PairFiles<'a> {
         requires other { length other.now ≤ 8388608 }
         requires machine { length machine.now ≤ 1048576 }
         requires loops { length loops.now ≤ 1048576 }
-        ensures { (result.image.now ≡ image.now) × (result.other.now ≡ other.now) × (result.machine.now ≡ machine.now) × (result.loops.now ≡ loops.now) }
+        ensures { (result.image.now ≡ image.now) × (result.other.now ≡ other.now) × (result.machine.now ≡ machine.now) ×
+            (result.loops.now ≡ loops.now) }
     {
         PairFiles {
             image,

@@ -12,7 +12,7 @@ ghost use Rattle.scale_tool.specs.Tool.{Ends, IsAnswerOf, IsAnswered, IsReadyFor
 ghost use Rattle.scale_tool.specs.Views.{work_view};
 
 use crate::command::{Command, Work, parse, wants};
-use crate::reply::made;
+use crate::reply::reply_for;
 use crate::texts;
 use check_laws::rewritten_images_pass;
 use host_files::{Host, HostError};
@@ -27,15 +27,17 @@ fn reply_to<H: Host, P: Progress>(
     work: &Work<'_>,
     progress: &mut P,
 ) -> Result<Reply, HostError>
-    ensures told { IfOk result (λ reply. IfSome (H.state host.old).files (λ files. IsAnswerOf (Some (work_view work.now)) files (reply_view reply))) }
+    ensures told { IfOk result (λ reply. IfSome (H.state host.old).files (λ files. IsAnswerOf (Some (work_view work.now)) files
+        (reply_view reply))) }
     ensures status { IfOk result (λ reply. IsTrue (may_give (Some (work_view work.now)) reply.status)) }
     ensures untouched { IsUntouched (H.state host.old) (H.state host.new) }
     ensures faults { (H.state host.new).faults ≡ count_if (is_failed result) (H.state host.old).faults }
-    ensures steady { IfErr result (λ error. error ≡ HostError.Failed → IsSome (H.state host.old).room → IfSome (H.state host.old).files (λ files. loading_of (wants_of (work_view work.now)) files ≡ Missing)) }
+    ensures steady { IfErr result (λ error. error ≡ HostError.Failed → IsSome (H.state host.old).room →
+        IfSome (H.state host.old).files (λ files. loading_of (wants_of (work_view work.now)) files ≡ Missing)) }
 {
     let wants = wants(alloc, work)?;
     match load_all(host, alloc, &wants) {
-        Ok(AllLoaded::Whole(files)) => Ok(made(alloc, work, &files, progress)?),
+        Ok(AllLoaded::Whole(files)) => Ok(reply_for(alloc, work, &files, progress)?),
         Ok(AllLoaded::TooLong(number)) => Ok(Reply::too_large(alloc, wants[number].name)?),
         Err(error) => Err(error),
     }

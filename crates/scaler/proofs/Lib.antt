@@ -1,11 +1,10 @@
-pub mod Files
-pub mod Answering
+pub mod TimedFacts
+pub mod Given
 pub mod Bases
 pub mod HeldRuns
 pub mod Safe
 pub mod SafeRewritten
-pub mod FilesAs
-pub mod FilesRewritten
+pub mod Gains
 pub mod SafeAs
 pub mod HeldPromise
 pub mod SlackMarks

@@ -25,10 +25,11 @@ use Rattle.graph_runs.proofs.Laws.{image_runs_are_below, image_runs_end}
 use Rattle.loop_file.specs.declared.notes.LoopNote.{LoopNote}
 use Rattle.loop_file.specs.Loops.{read_loops}
 use Rattle.loop_file.specs.Kept.{noted_loops}
-use Rattle.answer_parts.specs.Parts.{unscaled}
 use Rattle.scaler.specs.Held.{IsHeld, IsProgramHeld, IsHeldProgram, held_at, held_from, held_file, held_summary}
 use Rattle.scaler.specs.Runs.{IsHeldSafely, KeptAsPrinted, KeptRunsEndAsPrinted}
-use Rattle.marked_images.proofs.Laws.{file_is, found_below, is_unscaled, then_ok}
+use Rattle.program_sources.specs.Sources.{sources_of}
+use Rattle.program_sources.proofs.Laws.{no_key, sources_parts, then_ok}
+use Rattle.marked_images.proofs.Laws.{file_is, found_below}
 use Rattle.scaler.proofs.HeldRuns.{runs_alike, printed}
 use Rattle.rewritten_runs.proofs.Laws.{kept_by_tree, program_of}
 
@@ -52,19 +53,17 @@ held_program power original notes given (inr (inr h)) = h
 pub went_through : (image machine loops : List ℕ) (given : List ℕ × Summary) → IsHeld image machine loops (Ok given) → WentThrough image machine loops given
 unfolding IsHeld
 went_through image machine loops given h =
-    let a = then_ok (read_machine machine) _ given h in
-    let b = then_ok (image_of image) _ given a.2 in
-    let c = then_ok (unscaled b.0.keyed_segment) _ given b.2 in
-    let d = then_ok (read_loops b.0 loops) _ given c.2 in
+    let read = then_ok (sources_of image machine loops) _ given h in
+    let s = sources_parts image machine loops read.0 read.1 in
     record {
-      power = a.0;
-      original = b.0;
-      notes = d.0;
-      power_is = a.1;
-      original_is = b.1;
-      no_key = is_unscaled b.0.keyed_segment c.1;
-      notes_are = d.1;
-      program = held_program a.0 b.0 d.0 given d.2;
+      power = read.0.power;
+      original = read.0.view;
+      notes = read.0.notes;
+      power_is = s.power_is;
+      original_is = s.view_is;
+      no_key = no_key read.0.view.keyed_segment s.unscaled;
+      notes_are = s.notes_are;
+      program = held_program read.0.power read.0.view read.0.notes given read.2;
     }
 
 -- ---- the starting level

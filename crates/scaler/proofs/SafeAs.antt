@@ -23,14 +23,15 @@ use Rattle.stub_writer.specs.Stubs.{out_of_reach}
 use Rattle.rewritten_runs.specs.Stubs.{rewritten_file, marks_by_slack}
 use Rattle.rewritten_runs.specs.Promise.{EndsAsPromised, KeepsThePromise}
 use Rattle.rewritten_runs.proofs.Laws.{rewritten_follow}
-use Rattle.answer_parts.specs.Parts.{unscaled}
 use Rattle.scaler.specs.Rewritten.{IsProgramRewritten}
 use Rattle.marked_images.specs.Stored.{rewritten_summary}
 use Rattle.rewritten_runs.specs.FilePromise.{FilesKeepThePromise}
 use Rattle.marked_images.specs.Promise.{IsStoredSafely}
 use Rattle.scaler.specs.RewrittenAs.{IsRewrittenAs, with_gain, notes_with}
-use Rattle.scaler.proofs.FilesAs.{model_with}
-use Rattle.marked_images.proofs.Laws.{found_in_time, is_unscaled, near_of, then_ok}
+use Rattle.scaler.proofs.Gains.{model_with}
+use Rattle.program_sources.specs.Sources.{sources_of}
+use Rattle.program_sources.proofs.Laws.{no_key, sources_parts, then_ok}
+use Rattle.marked_images.proofs.Laws.{found_in_time, near_of}
 use Rattle.scaler.proofs.SafeRewritten.{rewritten_program}
 
 -- ---- what it went through
@@ -48,19 +49,17 @@ record WentThrough (image machine loops : List ℕ) (min_gain : ℕ) (counters :
 went_through : (image machine loops : List ℕ) (min_gain : ℕ) (counters : Bool) (given : List ℕ × Summary) → IsRewrittenAs image machine loops min_gain counters (Ok given) → WentThrough image machine loops min_gain counters given
 unfolding IsRewrittenAs
 went_through image machine loops min_gain counters given h =
-    let a = then_ok (read_machine machine) _ given h in
-    let b = then_ok (image_of image) _ given a.2 in
-    let c = then_ok (unscaled b.0.keyed_segment) _ given b.2 in
-    let d = then_ok (read_loops b.0 loops) _ given c.2 in
+    let read = then_ok (sources_of image machine loops) _ given h in
+    let s = sources_parts image machine loops read.0 read.1 in
     record {
-      power = a.0;
-      original = b.0;
-      notes = d.0;
-      power_is = a.1;
-      original_is = b.1;
-      no_key = is_unscaled b.0.keyed_segment c.1;
-      notes_are = d.1;
-      program = rewritten_program (with_gain a.0 min_gain) b.0 (notes_with counters d.0) given d.2;
+      power = read.0.power;
+      original = read.0.view;
+      notes = read.0.notes;
+      power_is = s.power_is;
+      original_is = s.view_is;
+      no_key = no_key read.0.view.keyed_segment s.unscaled;
+      notes_are = s.notes_are;
+      program = rewritten_program (with_gain read.0.power min_gain) read.0.view (notes_with counters read.0.notes) given read.2;
     }
 
 -- ---- the notes keep the same runs

@@ -18,13 +18,14 @@ use Rattle.rewritten_runs.specs.Stubs.{rewritten_file, marks_by_slack, stored_we
 use Rattle.rewritten_runs.specs.Promise.{KeepsThePromise}
 use Rattle.rewritten_runs.specs.Followed.{FollowsInTime}
 use Rattle.rewritten_runs.proofs.Laws.{rewritten_follow}
-use Rattle.answer_parts.specs.Parts.{unscaled}
 use Rattle.scaler.specs.Rewritten.{IsRewritten, IsRewrittenProgram, IsProgramRewritten}
 use Rattle.marked_images.specs.Stored.{rewritten_summary}
 use Rattle.rewritten_runs.specs.FilePromise.{FilesKeepThePromise}
 use Rattle.marked_images.specs.Promise.{IsStoredSafely}
 use Rattle.scaler.specs.RewrittenRuns.{IsProgramStored, IsRewrittenSafely}
-use Rattle.marked_images.proofs.Laws.{found_in_time, is_unscaled, near_of, then_ok}
+use Rattle.program_sources.specs.Sources.{sources_of}
+use Rattle.program_sources.proofs.Laws.{no_key, sources_parts, then_ok}
+use Rattle.marked_images.proofs.Laws.{found_in_time, near_of}
 
 -- ---- what `rewrite` went through
 
@@ -49,19 +50,17 @@ rewritten_program power original notes given (inr (inr (inr (inr (inr h))))) = h
 pub went_through : (image machine loops : List ℕ) (given : List ℕ × Summary) → IsRewritten image machine loops (Ok given) → WentThrough image machine loops given
 unfolding IsRewritten
 went_through image machine loops given h =
-    let a = then_ok (read_machine machine) _ given h in
-    let b = then_ok (image_of image) _ given a.2 in
-    let c = then_ok (unscaled b.0.keyed_segment) _ given b.2 in
-    let d = then_ok (read_loops b.0 loops) _ given c.2 in
+    let read = then_ok (sources_of image machine loops) _ given h in
+    let s = sources_parts image machine loops read.0 read.1 in
     record {
-      power = a.0;
-      original = b.0;
-      notes = d.0;
-      power_is = a.1;
-      original_is = b.1;
-      no_key = is_unscaled b.0.keyed_segment c.1;
-      notes_are = d.1;
-      program = rewritten_program a.0 b.0 d.0 given d.2;
+      power = read.0.power;
+      original = read.0.view;
+      notes = read.0.notes;
+      power_is = s.power_is;
+      original_is = s.view_is;
+      no_key = no_key read.0.view.keyed_segment s.unscaled;
+      notes_are = s.notes_are;
+      program = rewritten_program read.0.power read.0.view read.0.notes given read.2;
     }
 
 -- ---- the law

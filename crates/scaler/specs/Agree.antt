@@ -1,4 +1,4 @@
--- Two answers that may be given for the same files are the same, but for the cycle that a refusal names.
+-- Scaffold: two answers that may be given for the same files are the same, but for the cycle that a refusal names.
 use Rattle.std.specs.Prelude.{◌≡◌, ℕ, Bool, List, Result, Ok, Err}
 use Rattle.scale_base.specs.declared.refusal.Refusal.{Refusal}
 use Rattle.scale_base.specs.declared.summary.Summary.{Summary}
@@ -24,4 +24,5 @@ RewrittenAnswersAgree = (image machine loops : List ℕ) (one other : Result (Li
 
 abbrev pub RewrittenAsAnswersAgree : Type 0
 RewrittenAsAnswersAgree = (image machine loops : List ℕ) (min_gain : ℕ) (counters : Bool) (one other : Result (List ℕ × Summary) Refusal) →
-    IsRewrittenAs image machine loops min_gain counters one → IsRewrittenAs image machine loops min_gain counters other → AreAlikeAnswers one other
+    IsRewrittenAs image machine loops min_gain counters one → IsRewrittenAs image machine loops min_gain counters other →
+    AreAlikeAnswers one other

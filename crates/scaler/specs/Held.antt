@@ -4,13 +4,11 @@ use Rattle.std.specs.Prelude.{◌≡◌, ◌⊎◌, ℕ, nat_lt, if◌then◌els
 use Rattle.scale_base.specs.declared.refusal.Refusal.{Refusal}
 use Rattle.scale_base.specs.declared.refusal.Refusal.TheVariants.{DeadlineMissed, TooLong}
 use Rattle.scale_base.specs.declared.summary.Summary.{Summary}
-use Rattle.scale_base.specs.Image.{Image, image_of}
+use Rattle.scale_base.specs.Image.{Image}
 use Rattle.power_model.specs.Numbers.{PowerModel}
 use Rattle.power_model.specs.Price.{cycles_of, time_at}
 use Rattle.power_model.specs.Slowest.{slowest_of, fastest}
-use Rattle.machine_file.specs.Machine.{read_machine}
 use Rattle.loop_file.specs.declared.notes.LoopNote.{LoopNote}
-use Rattle.loop_file.specs.Loops.{read_loops}
 use Rattle.elf_patch.specs.Stored.{stored_image, held_base}
 use Rattle.cost_theory.specs.Worst.{Numbers, AreNumbers}
 use Rattle.code_text.specs.Text.{text_of}
@@ -18,7 +16,8 @@ use Rattle.code_text.specs.EdgeCosts.{weights}
 use Rattle.code_text.specs.TextGraph.{text_graph}
 use Rattle.flow_graph.specs.FlowGraph.{FlowGraph, IsGraphOf}
 use Rattle.loop_forest.specs.Tree.{LoopView, loops, IsTreeOf}
-use Rattle.answer_parts.specs.Parts.{Then, unscaled}
+use Rattle.answer_parts.specs.Parts.{Then}
+use Rattle.program_sources.specs.Sources.{sources_of}
 use Rattle.marked_images.specs.Refused.{IsCodeRefused, IsLoopRefused}
 
 -- ---- what is stored at a number of worst cycles
@@ -61,11 +60,13 @@ pub record IsProgramHeld (power : PowerModel) (image : Image) (notes : List Loop
   pub numbers : Numbers
   pub code_is : IsGraphOf (text_of image) code
   pub tree_is : IsTreeOf code notes tree
-  pub numbers_are : AreNumbers (text_graph (text_of image) code.code) (loops code tree) (weights (text_of image) code.code (cycles_of power.costs)) numbers
+  pub numbers_are : AreNumbers (text_graph (text_of image) code.code) (loops code tree)
+      (weights (text_of image) code.code (cycles_of power.costs)) numbers
   pub answer_is : answer ≡ held_within power image (numbers.worst 0)
 
 abbrev pub IsHeldProgram : PowerModel → Image → List LoopNote → Result (List ℕ × Summary) Refusal → Type 0
-IsHeldProgram power image notes answer = IsCodeRefused image answer ⊎ (IsLoopRefused image notes answer ⊎ IsProgramHeld power image notes answer)
+IsHeldProgram power image notes answer = IsCodeRefused image answer ⊎ (IsLoopRefused image notes answer ⊎
+    IsProgramHeld power image notes answer)
 
 -- ---- what the files give
 
@@ -73,8 +74,4 @@ IsHeldProgram power image notes answer = IsCodeRefused image answer ⊎ (IsLoopR
 -- code, of its loops, of too many worst cycles, and of the deadline.
 unfoldable pub IsHeld : List ℕ → List ℕ → List ℕ → Result (List ℕ × Summary) Refusal → Type 0
 IsHeld image machine loops answer =
-    Then (read_machine machine) (λ power.
-    Then (image_of image) (λ original.
-    Then (unscaled original.keyed_segment) (λ _.
-    Then (read_loops original loops) (λ notes.
-    IsHeldProgram power original notes)))) answer
+    Then (sources_of image machine loops) (λ s. IsHeldProgram s.power s.view s.notes) answer

@@ -1,4 +1,5 @@
 pub mod Held
+pub mod Timed
 pub mod Runs
 pub mod Rewritten
 pub mod RewrittenAs

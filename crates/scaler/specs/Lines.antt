@@ -1,4 +1,4 @@
--- The lines of the fragments of a marked program.
+-- Scaffold: the lines of the fragments of a marked program.
 use Rattle.std.specs.Prelude.{◌≡◌, ℕ, ◌-◌, ◌<◌, ◌≤◌, List, ◌++◌, map, length, slice_get, Some}
 use Rattle.scale_base.specs.declared.edges.Edge.{Edge}
 use Rattle.scale_base.specs.declared.fragments.Fragment.{Fragment}
@@ -30,7 +30,9 @@ IsOfLoop counted (fragments.Tally counter shift from) = IsLoopCounter counted co
 -- the lines of an edge's fragments behind some lines
 abbrev pub ArePushedAt : PowerModel → FlowGraph → LoopView → Marking → ℕ → List SiteLine → List SiteLine → Type 0
 ArePushedAt power v t m e old new = Whichever power v t m (λ image wanted stored least. (edge : Edge) → slice_get v.code.edges e ≡ Some edge
-    → new ≡ old ++ map (line_of (counted_loops t) edge) (fragments_with power (test_of power m) image v t (marked_where v t wanted) stored least e))
+    → new ≡ old ++ map (line_of (counted_loops t) edge) (fragments_with power (test_of power m) image v t (marked_where v t wanted) stored
+    least e))
 
 abbrev pub AreLinesOf : PowerModel → FlowGraph → LoopView → Marking → List SiteLine → Type 0
-AreLinesOf power v t m lines = Whichever power v t m (λ image wanted stored least. lines ≡ lines_from (counted_loops t) (fragments_with power (test_of power m) image v t (marked_where v t wanted) stored least) 0 v.code.edges)
+AreLinesOf power v t m lines = Whichever power v t m (λ image wanted stored least. lines ≡ lines_from (counted_loops t)
+    (fragments_with power (test_of power m) image v t (marked_where v t wanted) stored least) 0 v.code.edges)

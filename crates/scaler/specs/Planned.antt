@@ -60,10 +60,12 @@ pub record HasLines (image machine loop_file : List ℕ) (lines : List SiteLine)
   pub stored : Numbers
   pub least : Charged
   pub weighed : IsWeighed power original notes code tree plain stored
-  pub least_are : AreCharged (graph code) (loops code tree) (stored_weights power original code (marks_by_slack power original code tree plain)) least
+  pub least_are : AreCharged (graph code) (loops code tree) (stored_weights power original code
+      (marks_by_slack power original code tree plain)) least
   pub lines_are : lines ≡ plan_lines power original code tree plain stored least
 
 -- the summary of the file that is stored, with the lines of its fragments, or the first refusal
 abbrev pub IsPlanned : List ℕ → List ℕ → List ℕ → Result (Summary × List SiteLine) Refusal → Type 0
 IsPlanned image machine loop_file (Err refusal) = IsRewritten image machine loop_file (Err refusal)
-IsPlanned image machine loop_file (Ok plan) = (stored : List ℕ) × IsRewritten image machine loop_file (Ok ((stored, plan.0))) × HasLines image machine loop_file plan.1
+IsPlanned image machine loop_file (Ok plan) = (stored : List ℕ) × IsRewritten image machine loop_file (Ok ((stored, plan.0))) ×
+    HasLines image machine loop_file plan.1

@@ -5,19 +5,18 @@ use Rattle.std.specs.Prelude.{◌≡◌, ◌⊎◌, ℕ, ◌<◌, ◌≤◌, Lis
 use Rattle.scale_base.specs.declared.refusal.Refusal.{Refusal}
 use Rattle.scale_base.specs.declared.refusal.Refusal.TheVariants.{DeadlineMissed, TooLong}
 use Rattle.scale_base.specs.declared.summary.Summary.{Summary}
-use Rattle.scale_base.specs.Image.{Image, image_of}
+use Rattle.scale_base.specs.Image.{Image}
 use Rattle.power_model.specs.Numbers.{PowerModel}
 use Rattle.power_model.specs.Price.{time_at}
 use Rattle.power_model.specs.Slowest.{slowest_of, fastest}
-use Rattle.machine_file.specs.Machine.{read_machine}
 use Rattle.loop_file.specs.declared.notes.LoopNote.{LoopNote}
-use Rattle.loop_file.specs.Loops.{read_loops}
 use Rattle.cost_theory.specs.Worst.{Numbers}
 use Rattle.cycle_laws.specs.Charged.{Charged}
 use Rattle.flow_graph.specs.FlowGraph.{FlowGraph}
 use Rattle.loop_forest.specs.Tree.{LoopView}
 use Rattle.stub_writer.specs.Stubs.{Site, out_of_reach}
-use Rattle.answer_parts.specs.Parts.{Then, unscaled}
+use Rattle.answer_parts.specs.Parts.{Then}
+use Rattle.program_sources.specs.Sources.{sources_of}
 use Rattle.marked_images.specs.Refused.{IsCodeRefused, IsLoopRefused, IsCounterRefused}
 use Rattle.marked_images.specs.Stored.{rewritten_summary, unless_out_of_reach}
 use Rattle.rewritten_runs.specs.Stubs.{IsWeighed, HasStubs, rewritten_file, marks_by_slack}
@@ -60,8 +59,11 @@ pub record IsProgramRewritten (power : PowerModel) (image : Image) (notes : List
   pub short : stored.worst 0 ≤ 281474976710656
   pub slow : slowest_of power (stored.worst 0) ≡ Some start
   pub stubs : HasStubs power image code tree plain stored extra least sites base
-  pub answer_is : answer ≡ unless_out_of_reach (out_of_reach base sites)
-      (rewritten_file image sites base start, rewritten_summary power code (marks_by_slack power image code tree plain) start (stored.worst 0) (extra.worst 0) sites)
+  pub answer_is : answer ≡ unless_out_of_reach (out_of_reach base sites) (
+    rewritten_file image sites base start,
+    rewritten_summary power code (marks_by_slack power image code tree plain) start
+        (stored.worst 0) (extra.worst 0) sites,
+  )
 
 abbrev pub IsRewrittenProgram : PowerModel → Image → List LoopNote → Result (List ℕ × Summary) Refusal → Type 0
 IsRewrittenProgram power image notes answer =
@@ -74,8 +76,4 @@ IsRewrittenProgram power image notes answer =
 -- loops that can't be counted, of too many of them, of too many worst cycles, of the deadline, and of a stub that is out of reach.
 unfoldable pub IsRewritten : List ℕ → List ℕ → List ℕ → Result (List ℕ × Summary) Refusal → Type 0
 IsRewritten image machine loops answer =
-    Then (read_machine machine) (λ power.
-    Then (image_of image) (λ original.
-    Then (unscaled original.keyed_segment) (λ _.
-    Then (read_loops original loops) (λ notes.
-    IsRewrittenProgram power original notes)))) answer
+    Then (sources_of image machine loops) (λ s. IsRewrittenProgram s.power s.view s.notes) answer

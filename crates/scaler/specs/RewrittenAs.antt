@@ -2,13 +2,11 @@
 use Rattle.std.specs.Prelude.{ℕ, Bool, true, false, List, map, Result}
 use Rattle.scale_base.specs.declared.refusal.Refusal.{Refusal}
 use Rattle.scale_base.specs.declared.summary.Summary.{Summary}
-use Rattle.scale_base.specs.Image.{image_of}
 use Rattle.power_model.specs.Numbers.{PowerModel}
-use Rattle.machine_file.specs.Machine.{read_machine}
 use Rattle.loop_file.specs.declared.notes.LoopNote.{LoopNote}
-use Rattle.loop_file.specs.Loops.{read_loops}
 use Rattle.loop_file.specs.Notes.{uncounted_note}
-use Rattle.answer_parts.specs.Parts.{Then, unscaled}
+use Rattle.answer_parts.specs.Parts.{Then}
+use Rattle.program_sources.specs.Sources.{sources_of}
 use Rattle.scaler.specs.Rewritten.{IsRewrittenProgram}
 
 -- the machine with another number of cycles of slack from which on an edge gets a switch
@@ -21,10 +19,8 @@ notes_with true notes = notes
 notes_with false notes = map uncounted_note notes
 
 -- The stored bytes and the summary, or the first refusal, in the order of what `rewrite` gives.
-unfoldable pub IsRewrittenAs : (image machine loop_file : List ℕ) (min_gain : ℕ) (counters : Bool) → Result (List ℕ × Summary) Refusal → Type 0
+unfoldable pub IsRewrittenAs : (image machine loop_file : List ℕ) (min_gain : ℕ) (counters : Bool) → Result (List ℕ × Summary) Refusal →
+    Type 0
 IsRewrittenAs image machine loop_file min_gain counters answer =
-    Then (read_machine machine) (λ power.
-    Then (image_of image) (λ original.
-    Then (unscaled original.keyed_segment) (λ _.
-    Then (read_loops original loop_file) (λ notes.
-    IsRewrittenProgram (with_gain power min_gain) original (notes_with counters notes))))) answer
+    Then (sources_of image machine loop_file) (λ s. IsRewrittenProgram (with_gain s.power min_gain) s.view (notes_with counters s.notes))
+    answer

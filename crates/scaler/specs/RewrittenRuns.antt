@@ -28,7 +28,8 @@ pub record IsProgramStored (power : PowerModel) (original : Image) (notes : List
   pub stubs : HasStubs power original code tree plain numbers extra least sites base
   pub file_is : stored ≡ rewritten_file original sites base summary.start
   pub printed : (summary.worst ≡ numbers.worst 0) × (summary.stub_cycles ≡ extra.worst 0)
-  pub follows : FollowsInTime power original rewritten notes code tree (stored_weights power original code (marks_by_slack power original code tree plain)) plain numbers summary.stub_cycles
+  pub follows : FollowsInTime power original rewritten notes code tree (stored_weights power original code
+      (marks_by_slack power original code tree plain)) plain numbers summary.stub_cycles
 
 -- The bytes of an image, of a machine file, of a loop file and of the stored image: the stored image keeps the promise with the printed numbers, starts at the slowest
 -- level that is in time, and follows the original in time.

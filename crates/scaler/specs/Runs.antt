@@ -44,7 +44,8 @@ KeptAsPrinted power original notes held summary = (input : List ℕ) (n : ℕ)
 -- A kept run that goes on has taken at most as many steps as the printed cycles are, so each run that stays kept ends.
 abbrev pub KeptRunsEndAsPrinted : PowerModel → Image → List LoopNote → Image → Summary → Type 0
 KeptRunsEndAsPrinted power original notes held summary = (input : List ℕ) (n : ℕ)
-    → IsKeptUpTo original (length power.levels) input (noted_loops notes) n → (run_of held (length power.levels) input n).standing ≡ GoesOn → n ≤ summary.worst
+    → IsKeptUpTo original (length power.levels) input (noted_loops notes) n →
+    (run_of held (length power.levels) input n).standing ≡ GoesOn → n ≤ summary.worst
 
 -- The bytes of an image, of a machine file, of a loop file and of the stored image: the machine, the notes and the two images that they are.
 -- The images' runs are alike, and those that are kept end in time.

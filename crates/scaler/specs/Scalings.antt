@@ -1,4 +1,4 @@
--- What the parts of `rewrite` find, on the way to what it gives.
+-- Scaffold: what the parts of `rewrite` find, on the way to what it gives.
 use Rattle.std.specs.Prelude.{◌≡◌, ℕ, ◌<◌, ◌&&◌, nat_le, false, List, Result, Ok, Err}
 use Rattle.scale_base.specs.declared.refusal.Refusal.{Refusal}
 use Rattle.scale_base.specs.declared.refusal.Refusal.TheVariants.{TooLong}
@@ -36,17 +36,21 @@ abbrev pub ArePlain : PowerModel → Image → FlowGraph → LoopView → Number
 ArePlain power image v t plain = AreNumbers (graph v) (loops v t) (plain_weights power image v) plain
 
 abbrev pub AreSitesFound : PowerModel → Image → FlowGraph → LoopView → Result SitesView Refusal → Type 0
-AreSitesFound power image v t (Ok s) = (plain : Numbers) × ArePlain power image v t plain × HasMarks v t (wanted_by_slack power image v t plain) s
-AreSitesFound power image v t (Err refusal) = (refusal ≡ TooLong) × ((plain : Numbers) × ArePlain power image v t plain × (281474976710656 < plain.worst 0))
+AreSitesFound power image v t (Ok s) = (plain : Numbers) × ArePlain power image v t plain ×
+    HasMarks v t (wanted_by_slack power image v t plain) s
+AreSitesFound power image v t (Err refusal) = (refusal ≡ TooLong) × ((plain : Numbers) × ArePlain power image v t plain ×
+    (281474976710656 < plain.worst 0))
 
 -- ---- the numbers
 
 abbrev pub IsMarkingBySlack : PowerModel → Image → FlowGraph → LoopView → Result (Marking × ℕ) Refusal → Type 0
-IsMarkingBySlack power image v t found = (plain : Numbers) × ArePlain power image v t plain × IsMarkingFound power image v t (wanted_by_slack power image v t plain) (by_deadline power) found
+IsMarkingBySlack power image v t found = (plain : Numbers) × ArePlain power image v t plain ×
+    IsMarkingFound power image v t (wanted_by_slack power image v t plain) (by_deadline power) found
 
 -- the program of an image, with its marks by slack
 abbrev pub IsMarkedBySlack : PowerModel → Image → List LoopNote → Marked → Type 0
-IsMarkedBySlack power image notes m = (plain : Numbers) × ArePlain power image m.graph m.tree plain × IsMarked power image notes (wanted_by_slack power image m.graph m.tree plain) (by_deadline power) m
+IsMarkedBySlack power image notes m = (plain : Numbers) × ArePlain power image m.graph m.tree plain ×
+    IsMarked power image notes (wanted_by_slack power image m.graph m.tree plain) (by_deadline power) m
 
 abbrev pub IsMarkedFound : PowerModel → Image → List LoopNote → Result Marked Refusal → Type 0
 IsMarkedFound power image notes (Ok m) = IsMarkedBySlack power image notes m
@@ -64,8 +68,10 @@ pub record IsProgramFrom (image machine loop_file : List ℕ) (p : Program) : Ty
   pub notes_are : read_loops p.view loop_file ≡ Ok notes
   pub plain : Numbers
   pub plain_are : ArePlain p.power p.view p.marked.graph p.marked.tree plain
-  pub marked : IsMarked p.power p.view notes (wanted_by_slack p.power p.view p.marked.graph p.marked.tree plain) (by_deadline p.power) p.marked
-  pub scaled : IsScaled p.power p.view notes p.marked.graph p.marked.tree (wanted_by_slack p.power p.view p.marked.graph p.marked.tree plain) (by_deadline p.power) p.scaling
+  pub marked : IsMarked p.power p.view notes (wanted_by_slack p.power p.view p.marked.graph p.marked.tree plain) (by_deadline p.power)
+      p.marked
+  pub scaled : IsScaled p.power p.view notes p.marked.graph p.marked.tree (wanted_by_slack p.power p.view p.marked.graph p.marked.tree
+      plain) (by_deadline p.power) p.scaling
 
 abbrev pub IsProgramFound : List ℕ → List ℕ → List ℕ → Result Program Refusal → Type 0
 IsProgramFound image machine loop_file (Ok p) = IsProgramFrom image machine loop_file p

@@ -13,18 +13,16 @@ ghost use Rattle.scaler.specs.Rewritten as rewritten;
 ghost use Rattle.scaler.specs.RewrittenRuns.{IsRewrittenSafely};
 ghost use Rattle.scaler.specs.Scalings as scalings;
 
-use crate::safe_level::weights_of;
-use answer_parts::check_unscaled;
+use crate::timing::weights_of;
 use code_graph::build_graph;
 use elf_image::ImageView;
-use elf_view::read_image;
 use flow_graph::CodeGraph;
-use loop_file::{LoopNotes, read_loops};
+use loop_file::LoopNotes;
 use loop_forest::LoopTree;
 use loop_tree::build_loops;
-use machine_file::read_machine;
 use marked_images::{Marked, Marking, Program, marking_with, scaling_of, stored_file};
 use power_model::Power;
+use program_sources::Sources;
 use scale_base::{Stop, Summary};
 use scale_sites::{CounterList, Sites, choose, counters};
 use std::alloc::Global;
@@ -42,7 +40,8 @@ fn sites_of(
     requires tree { (extent : ℕ → ℕ → Bool) × IsLoopTree graph.now extent tree.now }
     requires counters { counters.now ≡ counted_loops tree.now }
     requires few { length counters.now ≤ 509 }
-    ensures { (image : Image) → IsGraphOf (text_of image) graph.now → AnswersBy (λ s. s) result (scalings.AreSitesFound power.now image graph.now tree.now) }
+    ensures { (image : Image) → IsGraphOf (text_of image) graph.now → AnswersBy (λ s. s) result
+        (scalings.AreSitesFound power.now image graph.now tree.now) }
 {
     let weights = weights_of(alloc, graph, power)?;
     let plain = worst(alloc, graph, tree, &weights)?;
@@ -59,7 +58,8 @@ fn marking_of(
 ) -> Result<(Marking, u8), Stop>
     requires program { (image : Image) × (notes : List LoopNote) × IsGraphOf (text_of image) graph.now × IsTreeOf graph.now notes tree.now }
     requires counters { AreCounters graph.now tree.now (Ok counters) }
-    ensures { (image : Image) → IsGraphOf (text_of image) graph.now → AnswersBy (λ x. x) result (scalings.IsMarkingBySlack power.now image graph.now tree.now) }
+    ensures { (image : Image) → IsGraphOf (text_of image) graph.now → AnswersBy (λ x. x) result
+        (scalings.IsMarkingBySlack power.now image graph.now tree.now) }
 {
     let sites = sites_of(alloc, graph, tree, &counters, power)?;
     marking_with(alloc, graph, tree, counters, sites, power)
@@ -100,7 +100,8 @@ fn rewrite_marked(
     requires no_key { view.now.keyed_segment ≡ None }
     requires power { IsPowerModel power.now }
     requires marked { (notes : List LoopNote) × scalings.IsMarkedBySlack power.now view.now notes marked.now }
-    ensures { (notes : List LoopNote) → scalings.IsMarkedBySlack power.now view.now notes marked.now → AnswersBy (λ given. (given.0.items, given.1)) result (rewritten.IsRewrittenProgram power.now view.now notes) }
+    ensures { (notes : List LoopNote) → scalings.IsMarkedBySlack power.now view.now notes marked.now →
+        AnswersBy (λ given. (given.0.items, given.1)) result (rewritten.IsRewrittenProgram power.now view.now notes) }
 {
     let scaling = scaling_of(alloc, view, power, marked)?;
     let bytes = stored_file(alloc, view, &scaling)?;
@@ -133,11 +134,10 @@ pub fn program_of<'a>(
 ) -> Result<Program<'a>, Stop>
     ensures { AnswersBy (λ p. p) result (scalings.IsProgramFound image.now machine.now loops.now) }
 {
-    let power = read_machine(alloc, machine)?;
-    let view = read_image(alloc, image)?;
-    check_unscaled(view.keyed())?;
-    let notes = read_loops(alloc, loops, &view)?;
-    let marked = marked_of(alloc, &view, &power, &notes)?;
+    let sources = Sources::read(alloc, image, machine, loops)?;
+    let power = sources.power;
+    let view = sources.view;
+    let marked = marked_of(alloc, &view, &power, &sources.notes)?;
     let scaling = scaling_of(alloc, &view, &power, &marked)?;
     Ok(Program {
         power,
@@ -145,23 +145,6 @@ pub fn program_of<'a>(
         marked,
         scaling,
     })
-}
-
-/// The image with its stubs, or the first refusal.
-fn rewrite_files(
-    alloc: Global,
-    image: &[u8],
-    machine: &[u8],
-    loops: &[u8],
-) -> Result<(Vec<u8>, Summary), Stop>
-    requires { length image.now ≤ 4194304 }
-    ensures { AnswersBy (λ given. (given.0.items, given.1)) result (rewritten.IsRewritten image.now machine.now loops.now) }
-{
-    let power = read_machine(alloc, machine)?;
-    let view = read_image(alloc, image)?;
-    check_unscaled(view.keyed())?;
-    let notes = read_loops(alloc, loops, &view)?;
-    rewrite_program(alloc, &view, &power, &notes)
 }
 
 /// The image with stubs that lower its level where what is left of the worst case allows it, started at the slowest level at which its
@@ -185,5 +168,6 @@ pub fn rewrite(
     // On each input on which the original run exits and is kept, the stored run keeps the promise; and it follows the original in time.
     ensures safe { IfOk result (λ given. IsRewrittenSafely image.now machine.now loops.now given.0.items given.1) }
 {
-    rewrite_files(alloc, image, machine, loops)
+    let sources = Sources::read(alloc, image, machine, loops)?;
+    rewrite_program(alloc, &sources.view, &sources.power, &sources.notes)
 }

@@ -6,11 +6,9 @@ ghost use Rattle.marked_images.specs.Promise.{IsStoredSafely};
 ghost use Rattle.scaler.specs.RewrittenAs as variant;
 
 use crate::rewriting::rewrite_program;
-use answer_parts::check_unscaled;
-use elf_view::read_image;
-use loop_file::{LoopNotes, read_loops};
-use machine_file::read_machine;
+use loop_file::LoopNotes;
 use power_model::Power;
+use program_sources::Sources;
 use scale_base::{Stop, Summary};
 use std::alloc::Global;
 
@@ -30,27 +28,6 @@ fn notes_with(counters: bool, notes: LoopNotes) -> LoopNotes
     if counters { notes } else { notes.uncounted() }
 }
 
-/// The image with its stubs by these choices, or the first refusal.
-fn rewrite_files_as(
-    alloc: Global,
-    image: &[u8],
-    machine: &[u8],
-    loops: &[u8],
-    min_gain: u32,
-    counters: bool,
-) -> Result<(Vec<u8>, Summary), Stop>
-    requires { length image.now ≤ 4194304 }
-    ensures { AnswersBy (λ given. (given.0.items, given.1)) result (variant.IsRewrittenAs image.now machine.now loops.now min_gain counters) }
-{
-    let power = read_machine(alloc, machine)?;
-    let view = read_image(alloc, image)?;
-    check_unscaled(view.keyed())?;
-    let notes = read_loops(alloc, loops, &view)?;
-    let power = with_gain(power, min_gain);
-    let notes = notes_with(counters, notes);
-    rewrite_program(alloc, &view, &power, &notes)
-}
-
 /// What `rewrite` gives where the least gain of the machine file is `min_gain` cycles of slack and, without `counters`, no loop is
 /// counted; or the first refusal, in the order of `rewrite`.
 ///
@@ -67,10 +44,14 @@ pub fn rewrite_as(
     requires image { length image.now ≤ 4194304 }
     requires machine { length machine.now ≤ 1048576 }
     requires loops { length loops.now ≤ 1048576 }
-    ensures given { AnswersBy (λ given. (given.0.items, given.1)) result (variant.IsRewrittenAs image.now machine.now loops.now min_gain counters) }
+    ensures given { AnswersBy (λ given. (given.0.items, given.1)) result (variant.IsRewrittenAs image.now machine.now loops.now min_gain
+        counters) }
 
     // On each input on which the original run exits and is kept, by the files' own notes, the stored run keeps the promise.
     ensures safe { IfOk result (λ given. IsStoredSafely image.now machine.now loops.now given.0.items given.1) }
 {
-    rewrite_files_as(alloc, image, machine, loops, min_gain, counters)
+    let sources = Sources::read(alloc, image, machine, loops)?;
+    let power = with_gain(sources.power, min_gain);
+    let notes = notes_with(counters, sources.notes);
+    rewrite_program(alloc, &sources.view, &power, &notes)
 }

@@ -1,4 +1,4 @@
--- A certificate of a loop by lists, as what `stack_laws` calls a certificate, and what the code says of it, edge by edge.
+-- Scaffold: a certificate of a loop by lists, as what `stack_laws` calls a certificate, and what the code says of it, edge by edge.
 use Rattle.std.specs.Prelude.{◌≡◌, ◌≢◌, ℕ, ◌+◌, ◌*◌, ◌%◌, ◌^◌, ◌<◌, ◌≤◌, Bool, true, false, List, length, slice_get, Option, Some, None}
 use Rattle.scale_base.specs.declared.instruction.Instr.{Instr}
 use Rattle.loop_file.specs.Kept.{in_extent}
@@ -89,11 +89,13 @@ IsNode c k a = slice_get c.claim.now.graph.now.code.nodes k ≡ Some a
 pub record IsTurnAt (c : Case) (k : ℕ) : Type 0 where
   -- what is counted as a turn comes from the body
   pub counted : (a : ℕ) → IsNode c k a → in_extent c.note.now a ≡ true → body_at c.certificate.now k ≡ true
-  pub raises : body_at c.certificate.now k ≡ true → (c.certificate.now.least ≤ behind_at c.certificate.now k) × (behind_at c.certificate.now k + c.certificate.now.width < 2 ^ 32)
+  pub raises : body_at c.certificate.now k ≡ true → (c.certificate.now.least ≤ behind_at c.certificate.now k) ×
+      (behind_at c.certificate.now k + c.certificate.now.width < 2 ^ 32)
 
 -- an edge from node k to node n, which isn't the header
 abbrev pub IsAlongAt : Case → (k n : ℕ) → Type 0
-IsAlongAt c k n = body_at c.certificate.now n ≡ true → (body_at c.certificate.now k ≡ true) × (offset_at c.certificate.now n ≡ behind_at c.certificate.now k)
+IsAlongAt c k n = body_at c.certificate.now n ≡ true → (body_at c.certificate.now k ≡ true) ×
+    (offset_at c.certificate.now n ≡ behind_at c.certificate.now k)
 
 -- an edge from node k to node n
 pub record IsLedAt (c : Case) (k n : ℕ) : Type 0 where
@@ -107,12 +109,14 @@ IsCountedAt c k = (a : ℕ) (i : Instr) → IsNode c k a → instr_at (claim_tex
 
 -- the call at node k of the function that begins at node h keeps the counter
 abbrev pub IsKeptAt : Case → (k h : ℕ) → Type 0
-IsKeptAt c k h = (a b : ℕ) → IsNode c k a → IsNode c h b → IsKeptBy (claim_text c.claim.now) (claim_values c.claim.now) (claim_stacks c.claim.now) a b (counter_view c.certificate.now.counter)
+IsKeptAt c k h = (a b : ℕ) → IsNode c k a → IsNode c h b → IsKeptBy (claim_text c.claim.now) (claim_values c.claim.now)
+    (claim_stacks c.claim.now) a b (counter_view c.certificate.now.counter)
 
 -- a call at node k of the function that begins at node h
 pub record IsCalledAt (c : Case) (k h : ℕ) : Type 0 where
   pub begins : body_at c.certificate.now h ≡ true → h ≡ c.header
-  pub calls : body_at c.certificate.now k ≡ true → (quiet_at c.certificate.now h ≡ true) × (adds_at c.certificate.now k ≡ 0) × IsKeptAt c k h
+  pub calls : body_at c.certificate.now k ≡ true → (quiet_at c.certificate.now h ≡ true) × (adds_at c.certificate.now k ≡ 0) ×
+      IsKeptAt c k h
 
 -- quiet code stays quiet on the way from node k to node n
 abbrev pub IsQuietAt : Case → (k n : ℕ) → Type 0
@@ -132,20 +136,24 @@ is_live_there c a = (claim_values c.claim.now).live a
 -- of an edge that leads to the header
 pub record IsTurnSo (c : Case) (a : ℕ) : Type 0 where
   pub counted : in_extent c.note.now a ≡ true → (code_certificate c).body a ≡ true
-  pub raises : (code_certificate c).body a ≡ true → (c.certificate.now.least ≤ added_behind (code_certificate c) a) × (added_behind (code_certificate c) a + c.certificate.now.width < 2 ^ 32)
+  pub raises : (code_certificate c).body a ≡ true → (c.certificate.now.least ≤ added_behind (code_certificate c) a) ×
+      (added_behind (code_certificate c) a + c.certificate.now.width < 2 ^ 32)
 
 -- of an edge that leads to a node
 pub record IsLedTo (c : Case) (a b : ℕ) : Type 0 where
   pub turn : b ≡ c.note.now.header → IsTurnSo c a
-  pub along : b ≢ c.note.now.header → (code_certificate c).body b ≡ true → ((code_certificate c).body a ≡ true) × ((code_certificate c).offset b ≡ added_behind (code_certificate c) a)
+  pub along : b ≢ c.note.now.header → (code_certificate c).body b ≡ true → ((code_certificate c).body a ≡ true) ×
+      ((code_certificate c).offset b ≡ added_behind (code_certificate c) a)
 
 abbrev pub IsLedSo : Case → ℕ → Type 0
 IsLedSo c e = (b : ℕ) → (case_graph c).target e ≡ Some b → IsLedTo c ((case_graph c).source e) b
 
 -- of a step that is no call
 abbrev pub IsStepSo : Case → ℕ → Type 0
-IsStepSo c e = (b : ℕ) (i : Instr) → (case_graph c).target e ≡ Some b → (case_graph c).callee e ≡ None → (code_certificate c).body ((case_graph c).source e) ≡ true → instr_at (claim_text c.claim.now) ((case_graph c).source e) ≡ Some i →
-    IsAdded (claim_values c.claim.now) (claim_stacks c.claim.now) (code_certificate c).counter ((case_graph c).source e) i ((code_certificate c).adds ((case_graph c).source e))
+IsStepSo c e = (b : ℕ) (i : Instr) → (case_graph c).target e ≡ Some b → (case_graph c).callee e ≡ None →
+    (code_certificate c).body ((case_graph c).source e) ≡ true → instr_at (claim_text c.claim.now) ((case_graph c).source e) ≡ Some i →
+    IsAdded (claim_values c.claim.now) (claim_stacks c.claim.now) (code_certificate c).counter ((case_graph c).source e) i
+    ((code_certificate c).adds ((case_graph c).source e))
 
 -- of a call
 pub record IsCalledTo (c : Case) (a b : ℕ) : Type 0 where
@@ -158,10 +166,12 @@ IsCalledSo c e = (f : ℕ) → (case_graph c).callee e ≡ Some f → IsCalledTo
 
 -- of quiet code
 abbrev pub IsQuietAlong : Case → ℕ → Type 0
-IsQuietAlong c e = (b : ℕ) → (case_graph c).target e ≡ Some b → (code_certificate c).quiet ((case_graph c).source e) ≡ true → (code_certificate c).quiet b ≡ true
+IsQuietAlong c e = (b : ℕ) → (case_graph c).target e ≡ Some b → (code_certificate c).quiet ((case_graph c).source e) ≡ true →
+    (code_certificate c).quiet b ≡ true
 
 abbrev pub IsQuietCalled : Case → ℕ → Type 0
-IsQuietCalled c e = (f : ℕ) → (case_graph c).callee e ≡ Some f → (code_certificate c).quiet ((case_graph c).source e) ≡ true → (code_certificate c).quiet ((case_graph c).entry f) ≡ true
+IsQuietCalled c e = (f : ℕ) → (case_graph c).callee e ≡ Some f → (code_certificate c).quiet ((case_graph c).source e) ≡ true →
+    (code_certificate c).quiet ((case_graph c).entry f) ≡ true
 
 -- of an edge to whose source a run may come
 pub record IsLiveSo (c : Case) (e : ℕ) : Type 0 where
@@ -183,8 +193,10 @@ pub record IsBegun (c : Case) : Type 0 where
   pub first : body_at c.certificate.now c.header ≡ true
   pub begins : offset_at c.certificate.now c.header ≡ 0
   pub quiet : quiet_at c.certificate.now c.header ≡ false
-  pub started : (k : ℕ) → slice_get c.claim.now.graph.now.code.nodes k ≡ Some c.claim.now.view.now.entry → body_at c.certificate.now k ≡ true → k ≡ c.header
+  pub started : (k : ℕ) → slice_get c.claim.now.graph.now.code.nodes k ≡ Some c.claim.now.view.now.entry →
+      body_at c.certificate.now k ≡ true → k ≡ c.header
   pub start : (k : ℕ) × (slice_get c.claim.now.graph.now.code.nodes k ≡ Some c.claim.now.view.now.entry)
 
 abbrev pub IsCertified : Case → Type 0
-IsCertified c = IsStackCertificate (claim_text c.claim.now) (text_graph (claim_text c.claim.now) c.claim.now.graph.now.code) (claim_values c.claim.now) (claim_stacks c.claim.now) c.note.now.header (λ v. in_extent c.note.now v) (code_certificate c)
+IsCertified c = IsStackCertificate (claim_text c.claim.now) (text_graph (claim_text c.claim.now) c.claim.now.graph.now.code)
+    (claim_values c.claim.now) (claim_stacks c.claim.now) c.note.now.header (λ v. in_extent c.note.now v) (code_certificate c)

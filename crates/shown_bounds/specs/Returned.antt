@@ -1,4 +1,4 @@
--- What the code says of returns, node by node and call by call.
+-- Scaffold: what the code says of returns, node by node and call by call.
 use Rattle.std.specs.Prelude.{◌≡◌, ◌≢◌, ℕ, ◌<◌, true, List, length, slice_get, Some}
 use Rattle.scale_base.specs.declared.instruction.Instr.{Instr}
 use Rattle.scale_base.specs.declared.stepping.Move.TheVariants.{Return}
@@ -29,7 +29,8 @@ AreLinked c f = (k a : ℕ) → slice_get c.graph.now.code.nodes k ≡ Some a �
 -- of a call
 abbrev pub IsLowerSo : StackClaim → List ℕ → ℕ → Type 0
 IsLowerSo c heights e = (f : ℕ) → (graph c.graph.now).callee e ≡ Some f → (claim_values c).live ((graph c.graph.now).source e) ≡ true →
-    height_at heights ((claim_values c).function ((graph c.graph.now).entry f)) < height_at heights ((claim_values c).function ((graph c.graph.now).source e))
+    height_at heights ((claim_values c).function ((graph c.graph.now).entry f)) < height_at heights
+    ((claim_values c).function ((graph c.graph.now).source e))
 
 -- of each call
 abbrev pub AreLower : StackClaim → List ℕ → Type 0

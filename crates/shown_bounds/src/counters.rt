@@ -56,7 +56,8 @@ fn is_more(name: Name, word: u32, factor: u32, adds: u32) -> bool
 fn is_more_at(claim: &StackClaim<'_>, k: usize, r: u8, word: u32, factor: u32, adds: u32) -> bool
     requires claim { IsStackClaim claim.now }
     requires node { k < length claim.now.graph.now.code.nodes }
-    ensures { result ≡ true → (a : ℕ) → slice_get claim.now.graph.now.code.nodes k ≡ Some a → IsMore (name_of (claim_stacks claim.now) a r) word factor adds }
+    ensures { result ≡ true → (a : ℕ) → slice_get claim.now.graph.now.code.nodes k ≡ Some a →
+        IsMore (name_of (claim_stacks claim.now) a r) word factor adds }
 {
     match name_at(claim, k, r) {
         Some(name) => is_more(name, word, factor, adds),
@@ -75,7 +76,8 @@ fn is_counted_on(
 ) -> bool
     requires claim { IsStackClaim claim.now }
     requires node { k < length claim.now.graph.now.code.nodes }
-    ensures { result ≡ true → (a : ℕ) → slice_get claim.now.graph.now.code.nodes k ≡ Some a → IsCountedFrom (claim_stacks claim.now) a i word factor adds }
+    ensures { result ≡ true → (a : ℕ) → slice_get claim.now.graph.now.code.nodes k ≡ Some a →
+        IsCountedFrom (claim_stacks claim.now) a i word factor adds }
 {
     match stored_word(claim, i, k) {
         Some((number, register)) => {
@@ -96,7 +98,8 @@ fn is_added_to_word(
 ) -> bool
     requires claim { IsStackClaim claim.now }
     requires node { k < length claim.now.graph.now.code.nodes }
-    ensures { result ≡ true → (shift a : ℕ) → slice_get claim.now.graph.now.code.nodes k ≡ Some a → IsAdded (claim_values claim.now) (claim_stacks claim.now) (in_word word factor shift) a i adds }
+    ensures { result ≡ true → (shift a : ℕ) → slice_get claim.now.graph.now.code.nodes k ≡ Some a →
+        IsAdded (claim_values claim.now) (claim_stacks claim.now) (in_word word factor shift) a i adds }
 {
     if adds == 0 && is_missed_by(claim, i, k, word) {
         return true;
@@ -124,7 +127,8 @@ pub fn is_added(
 ) -> bool
     requires claim { IsStackClaim claim.now }
     requires node { k < length claim.now.graph.now.code.nodes }
-    ensures { result ≡ true → (a : ℕ) → slice_get claim.now.graph.now.code.nodes k ≡ Some a → IsAdded (claim_values claim.now) (claim_stacks claim.now) (counter_view counter) a i adds }
+    ensures { result ≡ true → (a : ℕ) → slice_get claim.now.graph.now.code.nodes k ≡ Some a →
+        IsAdded (claim_values claim.now) (claim_stacks claim.now) (counter_view counter) a i adds }
 {
     match counter {
         StackCounter::InRegisters(m) => is_effect(m, i, adds),
@@ -212,7 +216,8 @@ fn is_known_within(arc: Arc, width: u32) -> bool
 fn is_line_within(claim: &StackClaim<'_>, k: usize, m: Measure, width: u32) -> bool
     requires claim { IsStackClaim claim.now }
     requires node { k < length claim.now.graph.now.code.nodes }
-    ensures { result ≡ true → (a : ℕ) → slice_get claim.now.graph.now.code.nodes k ≡ Some a → IsWithin (claim_values claim.now) (claim_stacks claim.now) width (in_registers (measure_view m)) a }
+    ensures { result ≡ true → (a : ℕ) → slice_get claim.now.graph.now.code.nodes k ≡ Some a →
+        IsWithin (claim_values claim.now) (claim_stacks claim.now) width (in_registers (measure_view m)) a }
 {
     match line_at(claim, k, m) {
         Some(arc) => is_known_within(arc, width),
@@ -224,7 +229,8 @@ fn is_line_within(claim: &StackClaim<'_>, k: usize, m: Measure, width: u32) -> b
 fn is_sum_within(claim: &StackClaim<'_>, k: usize, m: Measure, width: u32) -> bool
     requires claim { IsStackClaim claim.now }
     requires node { k < length claim.now.graph.now.code.nodes }
-    ensures { result ≡ true → (a : ℕ) → slice_get claim.now.graph.now.code.nodes k ≡ Some a → IsWithin (claim_values claim.now) (claim_stacks claim.now) width (in_registers (measure_view m)) a }
+    ensures { result ≡ true → (a : ℕ) → slice_get claim.now.graph.now.code.nodes k ≡ Some a →
+        IsWithin (claim_values claim.now) (claim_stacks claim.now) width (in_registers (measure_view m)) a }
 {
     if are_registers_within(claim.table, k, m, width) {
         return true;
@@ -255,7 +261,8 @@ fn is_word_within(
 ) -> bool
     requires claim { IsStackClaim claim.now }
     requires node { k < length claim.now.graph.now.code.nodes }
-    ensures { result ≡ true → (a : ℕ) → slice_get claim.now.graph.now.code.nodes k ≡ Some a → IsWithin (claim_values claim.now) (claim_stacks claim.now) width (in_word word factor shift) a }
+    ensures { result ≡ true → (a : ℕ) → slice_get claim.now.graph.now.code.nodes k ≡ Some a →
+        IsWithin (claim_values claim.now) (claim_stacks claim.now) width (in_word word factor shift) a }
 {
     match word_at(claim, k, word) {
         Some(arc) => is_arc_within(arc, factor, shift, width),
@@ -267,7 +274,8 @@ fn is_word_within(
 pub fn is_within(claim: &StackClaim<'_>, counter: StackCounter, k: usize, width: u32) -> bool
     requires claim { IsStackClaim claim.now }
     requires node { k < length claim.now.graph.now.code.nodes }
-    ensures { result ≡ true → (a : ℕ) → slice_get claim.now.graph.now.code.nodes k ≡ Some a → IsWithin (claim_values claim.now) (claim_stacks claim.now) width (counter_view counter) a }
+    ensures { result ≡ true → (a : ℕ) → slice_get claim.now.graph.now.code.nodes k ≡ Some a →
+        IsWithin (claim_values claim.now) (claim_stacks claim.now) width (counter_view counter) a }
 {
     match counter {
         StackCounter::InRegisters(m) => is_sum_within(claim, k, m, width),

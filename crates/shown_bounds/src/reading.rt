@@ -29,7 +29,8 @@ fn text_instr(view: &ImageView<'_>, at: u32) -> Option<Instr>
 pub fn node_instr(claim: &StackClaim<'_>, k: usize) -> Option<Instr>
     requires claim { IsStackClaim claim.now }
     requires node { k < length claim.now.graph.now.code.nodes }
-    ensures { IfSome result (λ i. (a : ℕ) → slice_get claim.now.graph.now.code.nodes k ≡ Some a → texts.instr_at (text_of claim.now.view.now) a ≡ Some i) }
+    ensures { IfSome result (λ i. (a : ℕ) → slice_get claim.now.graph.now.code.nodes k ≡ Some a →
+        texts.instr_at (text_of claim.now.view.now) a ≡ Some i) }
 {
     text_instr(claim.view, claim.graph.node(k))
 }

@@ -142,7 +142,8 @@ fn are_lower(claim: &StackClaim<'_>, heights: &[u32]) -> bool
 /// in what it calls.
 pub fn comes_back(claim: &StackClaim<'_>, heights: &[u32]) -> bool
     requires { IsStackClaim claim.now }
-    ensures { result ≡ true → ComesBack (text_of claim.now.view.now) (text_graph (text_of claim.now.view.now) claim.now.graph.now.code) (values_of claim.now.graph.now.code claim.now.table.now) (stacks_of claim.now.graph.now.code claim.now.stack.now) }
+    ensures { result ≡ true → ComesBack (text_of claim.now.view.now) (text_graph (text_of claim.now.view.now) claim.now.graph.now.code)
+        (values_of claim.now.graph.now.code claim.now.table.now) (stacks_of claim.now.graph.now.code claim.now.stack.now) }
 {
     if heights.len() != claim.graph.function_count() {
         return false;

@@ -1,4 +1,4 @@
--- How far the run of a machine has come, and how it ended.
+-- Scaffold: how far the run of a machine has come, and how it ended.
 use Rattle.std.specs.Prelude.{◌≡◌, ◌<◌, ℕ, length}
 use Rattle.scale_base.specs.declared.stepping.Stepped.{Stepped}
 use Rattle.scale_base.specs.State.{Setting, State}

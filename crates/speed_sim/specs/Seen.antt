@@ -1,4 +1,4 @@
--- What sees the steps of a run, one after another.
+-- Scaffold: what sees the steps of a run, one after another.
 use Rattle.std.specs.Prelude.{ℕ, zero, suc}
 use Rattle.scale_base.specs.declared.stepping.Stepped.{Stepped}
 use Rattle.scale_base.specs.declared.stepping.StepEnd.{StepEnd}

@@ -1,4 +1,4 @@
--- The price of a run as its numbers up to a step and the cycles behind it at the same level.
+-- Scaffold: the price of a run as its numbers up to a step and the cycles behind it at the same level.
 use Rattle.std.specs.Prelude.{◌≡◌, ℕ, ◌+◌, ◌*◌, List, slice_index, Option, Some, None}
 use Rattle.scale_base.specs.declared.endings.End.{End}
 use Rattle.scale_base.specs.declared.endings.End.TheVariants as endings

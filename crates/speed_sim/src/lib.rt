@@ -18,7 +18,7 @@ pub use allowed::start_of;
 use elf_view::read_image;
 use machine_file::read_machine;
 pub use power_model::RunReport;
-pub use reporting::{ImageRun, counted_report, report, watched_report, watched_with_progress};
+pub use reporting::{ImageRun, counted_report, report, watched_with_progress};
 use run_progress::{Progress, Silent};
 pub use scale_base::End;
 use scale_base::Stop;
@@ -41,7 +41,8 @@ pub fn simulate_with_progress<P: Progress>(
     files: &RunFiles<'_>,
     progress: &mut P,
 ) -> Result<RunReport, Stop>
-    ensures { Answers report_view result (simulated files.now.image.now files.now.machine.now files.now.input.now (option_map (λ l. l.now) files.now.loops)) }
+    ensures { Answers report_view result (simulated files.now.image.now files.now.machine.now files.now.input.now
+        (option_map (λ l. l.now) files.now.loops)) }
 {
     let power = read_machine(alloc, files.machine)?;
     let view = read_image(alloc, files.image)?;

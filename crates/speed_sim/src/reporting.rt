@@ -14,7 +14,7 @@ use flat_memory::load_pages;
 use keep_monitor::LoopCounter;
 use loop_file::LoopNotes;
 use power_model::{Power, RunReport};
-use run_progress::{Progress, Silent};
+use run_progress::Progress;
 use rv_machine::{Machine, Places, decode_code};
 use scale_base::{NoMemory, Range};
 use std::alloc::Global;
@@ -74,24 +74,6 @@ pub fn watched_with_progress<W: Watches, P: Progress>(
     })
 }
 
-/// The same of a run from a level, with nothing told.
-pub fn watched_report<W: Watches>(
-    alloc: Global,
-    view: &ImageView<'_>,
-    power: &Power,
-    start: u8,
-    input: &[u8],
-    watcher: &mut W,
-) -> Result<RunReport, NoMemory>
-    requires start { start ≡ starting_level (length power.now.levels) view.now.keyed_segment }
-    requires is_level { start < length power.now.levels }
-    ensures report { IfOk result (λ r. report_view r ≡ report_of power.now view.now input.now None) }
-    ensures watched { let levels = length power.now.levels in OnOk result (watcher.new ≡ seen_from (setting_of view.now levels input.now) (start_of view.now levels) W.watched watcher.old power.now.steps) }
-{
-    let given = ImageRun { view, power, start };
-    watched_with_progress(alloc, &given, input, watcher, &mut Silent)
-}
-
 /// The report of the run of an image with an input. Where there are notes of loops, it says whether they are kept. How far the run is is told.
 pub fn report<P: Progress>(
     alloc: Global,
@@ -121,9 +103,11 @@ pub fn counted_report<P: Progress>(
 ) -> Result<RunReport, NoMemory>
     requires start { given.now.start ≡ starting_level (length given.now.power.now.levels) given.now.view.now.keyed_segment }
     requires is_level { given.now.start < length given.now.power.now.levels }
-    ensures report { IfOk result (λ r. report_view r ≡ report_of given.now.power.now given.now.view.now input.now (Some counter.old.notes)) }
+    ensures report { IfOk result (λ r. report_view r ≡ report_of given.now.power.now given.now.view.now input.now
+        (Some counter.old.notes)) }
     ensures kept { IfOk result (λ r. r.kept ≡ Some counter.new.kept) }
-    ensures counted { OnOk result (counter.new ≡ counted_run given.now.view.now (length given.now.power.now.levels) input.now counter.old.notes counter.old.most given.now.power.now.steps) }
+    ensures counted { OnOk result (counter.new ≡ counted_run given.now.view.now (length given.now.power.now.levels) input.now
+        counter.old.notes counter.old.most given.now.power.now.steps) }
 {
     counter.begin();
     let mut report = watched_with_progress(alloc, given, input, counter, progress)?;

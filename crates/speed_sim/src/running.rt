@@ -38,7 +38,8 @@ fn pay_known<M: Memory>(
     requires levels { machine.old.levels ≡ length power.now.levels }
     requires level { tally.old.meter.level < length power.now.levels }
     requires few { tally.old.meter.steps + tally.old.steps < 2 ^ 40 }
-    ensures outcome { outcome_of M.bytes result machine.new ≡ steps.step (machine_setting M.layout machine.old) (state_of M.bytes machine.old) }
+    ensures outcome { outcome_of M.bytes result machine.new ≡ steps.step (machine_setting M.layout machine.old)
+        (state_of M.bytes machine.old) }
     ensures setting { machine_setting M.layout machine.new ≡ machine_setting M.layout machine.old }
     ensures port { PortBelow result machine.old.levels }
     ensures paid { IsPaid power.now result (tallied power.now tally.old) (tallied power.now tally.new) }
@@ -56,7 +57,8 @@ fn pay_step<M: Memory>(machine: &mut Machine<M>, power: &Power, tally: &mut Tall
     requires levels { machine.old.levels ≡ length power.now.levels }
     requires level { tally.old.meter.level < length power.now.levels }
     requires few { tally.old.meter.steps + tally.old.steps < 2 ^ 40 }
-    ensures outcome { outcome_of M.bytes result machine.new ≡ steps.step (machine_setting M.layout machine.old) (state_of M.bytes machine.old) }
+    ensures outcome { outcome_of M.bytes result machine.new ≡ steps.step (machine_setting M.layout machine.old)
+        (state_of M.bytes machine.old) }
     ensures setting { machine_setting M.layout machine.new ≡ machine_setting M.layout machine.old }
     ensures port { PortBelow result machine.old.levels }
     ensures paid { IsPaid power.now result (tallied power.now tally.old) (tallied power.now tally.new) }

@@ -47,7 +47,8 @@ impl Tally {
     #[inline(always)]
     pub fn add(&mut self, cost: u16, keyed: bool)
         requires { self.old.steps < 2 ^ 40 }
-        ensures { (power : PowerModel) (x : Stepped) → x.port ≡ None → cost ≡ step_cycles power x → keyed ≡ x.keyed → tallied power self.new ≡ metered power (tallied power self.old) x }
+        ensures { (power : PowerModel) (x : Stepped) → x.port ≡ None → cost ≡ step_cycles power x → keyed ≡ x.keyed →
+            tallied power self.new ≡ metered power (tallied power self.old) x }
     {
         self.steps += 1;
         self.cycles += u64::from(cost);

@@ -1,4 +1,4 @@
--- What the code confirms of stacks: register by register, word by word, line by line and edge by edge.
+-- Scaffold: what the code confirms of stacks: register by register, word by word, line by line and edge by edge.
 use Rattle.std.specs.Prelude.{◌≡◌, ℕ, ℤ, ◌<◌, ◌⊎◌, true, length, Option, Some, None}
 use Rattle.scale_base.specs.declared.instruction.ImmOp.TheVariants.{Addi}
 use Rattle.scale_base.specs.declared.instruction.RegOp.TheVariants.{Add}
@@ -170,7 +170,8 @@ pub record IsEdgeSound (t : Text) (g : Graph) (v : Values) (w : Stacks) (i : Ins
   pub call : (f : ℕ) → g.callee e ≡ Some f → AreEntered v w i a (g.entry f)
   pub returns : (r : ℕ) → g.returns e ≡ true → IsRegister r → IsReturned t v w a r
   pub back : (f b : ℕ) → g.callee e ≡ Some f → g.target e ≡ Some b → AreBack t v w a (g.entry f) b
-  pub spared_calls : (f k : ℕ) → g.callee e ≡ Some f → w.spared k a ≡ true → (w.spared k (g.entry f) ≡ true) × (more : ℕ) × IsDescending v w a more
+  pub spared_calls : (f k : ℕ) → g.callee e ≡ Some f → w.spared k a ≡ true → (w.spared k (g.entry f) ≡ true) × (more : ℕ) ×
+      IsDescending v w a more
   pub spares : (k : ℕ) → w.spared k a ≡ true → IsSparing v w a i k
 
 -- of any edge

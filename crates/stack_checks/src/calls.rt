@@ -22,7 +22,8 @@ fn is_name_begun(claim: &StackClaim<'_>, n: usize, r: u8) -> bool
     requires claim { IsStackClaim claim.now }
     requires node { n < length claim.now.graph.now.code.nodes }
     requires register { r < 32 }
-    ensures { result ≡ true → ((stacks_in claim.now).name (address claim.now n) r ≡ None) ⊎ ((stacks_in claim.now).name (address claim.now n) r ≡ Some (of_begin r 0)) }
+    ensures { result ≡ true → ((stacks_in claim.now).name (address claim.now n) r ≡ None) ⊎
+        ((stacks_in claim.now).name (address claim.now n) r ≡ Some (of_begin r 0)) }
 {
     is_same_name(name(claim, n, r), None)
         || is_same_name(name(claim, n, r), Some(Name::OfBegin(r, 0)))
@@ -67,7 +68,8 @@ fn is_exit_covered(way: &Way<'_>, h: usize, r: u8) -> bool
     requires way { IsWay way.now }
     requires entry { h < length way.now.claim.now.graph.now.code.nodes }
     requires register { r < 32 }
-    ensures { result ≡ true → values.Covers ((values_along way.now).at (to way.now) r) ((values_along way.now).exit ((values_along way.now).function (address way.now.claim.now h)) r) }
+    ensures { result ≡ true → values.Covers ((values_along way.now).at (to way.now) r)
+        ((values_along way.now).exit ((values_along way.now).function (address way.now.claim.now h)) r) }
 {
     covers(arc_behind(way, r), exits(way.claim, h)[usize::from(r)])
 }
@@ -86,7 +88,8 @@ fn is_arc_back(way: &Way<'_>, h: usize, r: u8) -> bool
     requires way { IsWay way.now }
     requires entry { h < length way.now.claim.now.graph.now.code.nodes }
     requires register { r < 32 }
-    ensures { result ≡ true → stacks.IsRegisterBack (text_along way.now) (values_along way.now) (stacks_along way.now) (from way.now) (address way.now.claim.now h) (to way.now) r }
+    ensures { result ≡ true → stacks.IsRegisterBack (text_along way.now) (values_along way.now) (stacks_along way.now) (from way.now)
+        (address way.now.claim.now h) (to way.now) r }
 {
     is_exit_covered(way, h, r)
         || (is_back(way, h, r) && is_arc_left(way, r))
@@ -98,7 +101,8 @@ fn is_name_back(way: &Way<'_>, h: usize, r: u8) -> bool
     requires way { IsWay way.now }
     requires entry { h < length way.now.claim.now.graph.now.code.nodes }
     requires register { r < 32 }
-    ensures { result ≡ true → stacks.IsNameBack (text_along way.now) (values_along way.now) (stacks_along way.now) (from way.now) (address way.now.claim.now h) (to way.now) r }
+    ensures { result ≡ true → stacks.IsNameBack (text_along way.now) (values_along way.now) (stacks_along way.now) (from way.now)
+        (address way.now.claim.now h) (to way.now) r }
 {
     let before = name(way.claim, way.from, r);
     let behind = name(way.claim, way.to, r);
@@ -113,7 +117,8 @@ fn is_span_back(way: &Way<'_>, h: usize, r: u8) -> bool
     requires way { IsWay way.now }
     requires entry { h < length way.now.claim.now.graph.now.code.nodes }
     requires register { r < 32 }
-    ensures { result ≡ true → stacks.IsSpanBack (text_along way.now) (values_along way.now) (stacks_along way.now) (from way.now) (address way.now.claim.now h) (to way.now) r }
+    ensures { result ≡ true → stacks.IsSpanBack (text_along way.now) (values_along way.now) (stacks_along way.now) (from way.now)
+        (address way.now.claim.now h) (to way.now) r }
 {
     is_spanned_by_name(way.claim, way.to, r) || (is_back(way, h, r) && is_span_left(way, r))
 }
@@ -147,7 +152,8 @@ fn is_exit_held(claim: &StackClaim<'_>, u: usize, r: u8) -> bool
     requires claim { IsStackClaim claim.now }
     requires from { u < length claim.now.graph.now.code.nodes }
     requires register { r < 32 }
-    ensures { result ≡ true → values.Covers ((values_in claim.now).exit ((values_in claim.now).function (address claim.now u)) r) ((values_in claim.now).at (address claim.now u) r) }
+    ensures { result ≡ true → values.Covers ((values_in claim.now).exit ((values_in claim.now).function (address claim.now u)) r)
+        ((values_in claim.now).at (address claim.now u) r) }
 {
     covers(exits(claim, u)[usize::from(r)], arc_at(claim, u, r))
 }
@@ -157,7 +163,8 @@ fn is_name_restored(claim: &StackClaim<'_>, u: usize, r: u8) -> bool
     requires claim { IsStackClaim claim.now }
     requires from { u < length claim.now.graph.now.code.nodes }
     requires register { r < 32 }
-    ensures { result ≡ true → (stacks_in claim.now).restored ((values_in claim.now).function (address claim.now u)) r ≡ true → (stacks_in claim.now).name (address claim.now u) r ≡ Some (of_begin r 0) }
+    ensures { result ≡ true → (stacks_in claim.now).restored ((values_in claim.now).function (address claim.now u)) r ≡ true →
+        (stacks_in claim.now).name (address claim.now u) r ≡ Some (of_begin r 0) }
 {
     !is_restored(claim, u, r) || is_same_name(name(claim, u, r), Some(Name::OfBegin(r, 0)))
 }
@@ -178,7 +185,8 @@ pub fn are_registers_returned(claim: &StackClaim<'_>, i: Instr, u: usize) -> boo
     requires claim { IsStackClaim claim.now }
     requires from { u < length claim.now.graph.now.code.nodes }
     requires instruction { text.instr_at (text_in claim.now) (address claim.now u) ≡ Some i }
-    ensures { result ≡ true → (r : ℕ) → IsRegister r → stacks.IsReturned (text_in claim.now) (values_in claim.now) (stacks_in claim.now) (address claim.now u) r }
+    ensures { result ≡ true → (r : ℕ) → IsRegister r → stacks.IsReturned (text_in claim.now) (values_in claim.now) (stacks_in claim.now)
+        (address claim.now u) r }
 {
     for r in 1..32u8 {
         if !is_register_returned(claim, i, u, r) {

@@ -11,7 +11,8 @@ use stack_tables::StackClaim;
 /// Whether the code confirms what two tables say, edge by edge.
 pub fn is_confirmed(claim: &StackClaim<'_>) -> bool
     requires { IsStackClaim claim.now }
-    ensures { result ≡ true → stacks.IsStackInvariant (text_in claim.now) (text_graph (text_in claim.now) claim.now.graph.now.code) (values_in claim.now) (stacks_in claim.now) }
+    ensures { result ≡ true → stacks.IsStackInvariant (text_in claim.now) (text_graph (text_in claim.now) claim.now.graph.now.code)
+        (values_in claim.now) (stacks_in claim.now) }
 {
     for e in 0..claim.graph.edge_count() {
         if !is_edge_checked(claim, e) {

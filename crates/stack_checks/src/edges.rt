@@ -26,7 +26,8 @@ use wrapped_intervals::{covers, is_impossible, keeps, said_by};
 // Whether no state goes this way.
 fn is_never(way: &Way<'_>) -> bool
     requires { IsWay way.now }
-    ensures { result ≡ true → values.IsImpossible (values.said way.now.instr (from way.now) (to way.now)) ((values_along way.now).at (from way.now)) }
+    ensures { result ≡ true → values.IsImpossible (values.said way.now.instr (from way.now) (to way.now))
+        ((values_along way.now).at (from way.now)) }
 {
     let claim = way.claim;
     is_impossible(
@@ -86,7 +87,8 @@ fn is_begun(claim: &StackClaim<'_>, k: usize, n: usize) -> bool
     requires claim { IsStackClaim claim.now }
     requires from { k < length claim.now.graph.now.code.nodes }
     requires to { n < length claim.now.graph.now.code.nodes }
-    ensures { result ≡ true → values.Covers ((stacks_in claim.now).begins ((values_in claim.now).function (address claim.now n))) ((values_in claim.now).at (address claim.now k) 2) }
+    ensures { result ≡ true → values.Covers ((stacks_in claim.now).begins ((values_in claim.now).function (address claim.now n)))
+        ((values_in claim.now).at (address claim.now k) 2) }
 {
     covers(begins(claim, n), arc_at(claim, k, 2))
 }
@@ -178,7 +180,8 @@ fn is_way_back(claim: &StackClaim<'_>, i: Instr, k: usize, h: usize, n: usize) -
     requires entry { h < length claim.now.graph.now.code.nodes }
     requires to { n < length claim.now.graph.now.code.nodes }
     requires instruction { text.instr_at (text_in claim.now) (address claim.now k) ≡ Some i }
-    ensures { result ≡ true → stacks.AreBack (text_in claim.now) (values_in claim.now) (stacks_in claim.now) (address claim.now k) (address claim.now h) (address claim.now n) }
+    ensures { result ≡ true → stacks.AreBack (text_in claim.now) (values_in claim.now) (stacks_in claim.now) (address claim.now k)
+        (address claim.now h) (address claim.now n) }
 {
     are_back(
         &Way {
@@ -197,7 +200,8 @@ fn is_step_checked(claim: &StackClaim<'_>, i: Instr, k: usize, e: usize) -> bool
     requires edge { e < length claim.now.graph.now.code.edges }
     requires node { k < length claim.now.graph.now.code.nodes }
     requires instruction { text.instr_at (text_in claim.now) (address claim.now k) ≡ Some i }
-    ensures { result ≡ true → (b : ℕ) → (graph claim.now.graph.now).target e ≡ Some b → (graph claim.now.graph.now).callee e ≡ None → stacks.IsPassed (values_in claim.now) (stacks_in claim.now) i (address claim.now k) b }
+    ensures { result ≡ true → (b : ℕ) → (graph claim.now.graph.now).target e ≡ Some b → (graph claim.now.graph.now).callee e ≡ None →
+        stacks.IsPassed (values_in claim.now) (stacks_in claim.now) i (address claim.now k) b }
 {
     match (claim.graph.callee(e), claim.graph.target(e)) {
         (None, Some(n)) => is_way_passed(claim, i, k, n),
@@ -211,7 +215,8 @@ fn is_call_checked(claim: &StackClaim<'_>, i: Instr, k: usize, e: usize) -> bool
     requires edge { e < length claim.now.graph.now.code.edges }
     requires node { k < length claim.now.graph.now.code.nodes }
     requires instruction { text.instr_at (text_in claim.now) (address claim.now k) ≡ Some i }
-    ensures { result ≡ true → (f : ℕ) → (graph claim.now.graph.now).callee e ≡ Some f → stacks.AreEntered (values_in claim.now) (stacks_in claim.now) i (address claim.now k) ((graph claim.now.graph.now).entry f) }
+    ensures { result ≡ true → (f : ℕ) → (graph claim.now.graph.now).callee e ≡ Some f →
+        stacks.AreEntered (values_in claim.now) (stacks_in claim.now) i (address claim.now k) ((graph claim.now.graph.now).entry f) }
 {
     match claim.graph.callee(e) {
         Some(f) => is_way_entered(claim, i, k, claim.graph.entry_node(f)),
@@ -225,7 +230,8 @@ fn is_return_checked(claim: &StackClaim<'_>, i: Instr, k: usize, e: usize) -> bo
     requires edge { e < length claim.now.graph.now.code.edges }
     requires node { k < length claim.now.graph.now.code.nodes }
     requires instruction { text.instr_at (text_in claim.now) (address claim.now k) ≡ Some i }
-    ensures { result ≡ true → (r : ℕ) → (graph claim.now.graph.now).returns e ≡ true → IsRegister r → stacks.IsReturned (text_in claim.now) (values_in claim.now) (stacks_in claim.now) (address claim.now k) r }
+    ensures { result ≡ true → (r : ℕ) → (graph claim.now.graph.now).returns e ≡ true → IsRegister r →
+        stacks.IsReturned (text_in claim.now) (values_in claim.now) (stacks_in claim.now) (address claim.now k) r }
 {
     !claim.graph.is_return(e) || are_registers_returned(claim, i, k)
 }
@@ -236,7 +242,9 @@ fn is_back_checked(claim: &StackClaim<'_>, i: Instr, k: usize, e: usize) -> bool
     requires edge { e < length claim.now.graph.now.code.edges }
     requires node { k < length claim.now.graph.now.code.nodes }
     requires instruction { text.instr_at (text_in claim.now) (address claim.now k) ≡ Some i }
-    ensures { result ≡ true → (f b : ℕ) → (graph claim.now.graph.now).callee e ≡ Some f → (graph claim.now.graph.now).target e ≡ Some b → stacks.AreBack (text_in claim.now) (values_in claim.now) (stacks_in claim.now) (address claim.now k) ((graph claim.now.graph.now).entry f) b }
+    ensures { result ≡ true → (f b : ℕ) → (graph claim.now.graph.now).callee e ≡ Some f → (graph claim.now.graph.now).target e ≡ Some b →
+        stacks.AreBack (text_in claim.now) (values_in claim.now) (stacks_in claim.now) (address claim.now k)
+        ((graph claim.now.graph.now).entry f) b }
 {
     match (claim.graph.callee(e), claim.graph.target(e)) {
         (Some(f), Some(n)) => is_way_back(claim, i, k, claim.graph.entry_node(f), n),
@@ -249,7 +257,9 @@ fn is_spared_to(claim: &StackClaim<'_>, k: usize, n: usize) -> bool
     requires claim { IsStackClaim claim.now }
     requires from { k < length claim.now.graph.now.code.nodes }
     requires to { n < length claim.now.graph.now.code.nodes }
-    ensures { result ≡ true → (j : ℕ) → (stacks_in claim.now).spared j (address claim.now k) ≡ true → ((stacks_in claim.now).spared j (address claim.now n) ≡ true) × (more : ℕ) × stacks.IsDescending (values_in claim.now) (stacks_in claim.now) (address claim.now k) more }
+    ensures { result ≡ true → (j : ℕ) → (stacks_in claim.now).spared j (address claim.now k) ≡ true →
+        ((stacks_in claim.now).spared j (address claim.now n) ≡ true) × (more : ℕ) ×
+        stacks.IsDescending (values_in claim.now) (stacks_in claim.now) (address claim.now k) more }
 {
     if is_spared(claim, k) {
         match descending(claim, k) {
@@ -266,7 +276,9 @@ fn is_spared_called(claim: &StackClaim<'_>, k: usize, e: usize) -> bool
     requires claim { IsStackClaim claim.now }
     requires edge { e < length claim.now.graph.now.code.edges }
     requires node { k < length claim.now.graph.now.code.nodes }
-    ensures { result ≡ true → (f j : ℕ) → (graph claim.now.graph.now).callee e ≡ Some f → (stacks_in claim.now).spared j (address claim.now k) ≡ true → ((stacks_in claim.now).spared j ((graph claim.now.graph.now).entry f) ≡ true) × (more : ℕ) × stacks.IsDescending (values_in claim.now) (stacks_in claim.now) (address claim.now k) more }
+    ensures { result ≡ true → (f j : ℕ) → (graph claim.now.graph.now).callee e ≡ Some f →
+        (stacks_in claim.now).spared j (address claim.now k) ≡ true → ((stacks_in claim.now).spared j ((graph claim.now.graph.now).entry f)
+        ≡ true) × (more : ℕ) × stacks.IsDescending (values_in claim.now) (stacks_in claim.now) (address claim.now k) more }
 {
     match claim.graph.callee(e) {
         Some(f) => is_spared_to(claim, k, claim.graph.entry_node(f)),
@@ -278,7 +290,8 @@ fn is_spared_called(claim: &StackClaim<'_>, k: usize, e: usize) -> bool
 fn is_sparing_checked(claim: &StackClaim<'_>, i: Instr, k: usize) -> bool
     requires claim { IsStackClaim claim.now }
     requires node { k < length claim.now.graph.now.code.nodes }
-    ensures { result ≡ true → (j : ℕ) → (stacks_in claim.now).spared j (address claim.now k) ≡ true → stacks.IsSparing (values_in claim.now) (stacks_in claim.now) (address claim.now k) i j }
+    ensures { result ≡ true → (j : ℕ) → (stacks_in claim.now).spared j (address claim.now k) ≡ true →
+        stacks.IsSparing (values_in claim.now) (stacks_in claim.now) (address claim.now k) i j }
 {
     !is_spared(claim, k) || is_sparing(claim, i, k)
 }
@@ -288,7 +301,8 @@ fn is_spared_behind(claim: &StackClaim<'_>, k: usize, n: usize) -> bool
     requires claim { IsStackClaim claim.now }
     requires from { k < length claim.now.graph.now.code.nodes }
     requires to { n < length claim.now.graph.now.code.nodes }
-    ensures { result ≡ true → (j : ℕ) → (stacks_in claim.now).spared j (address claim.now k) ≡ true → (stacks_in claim.now).spared j (address claim.now n) ≡ true }
+    ensures { result ≡ true → (j : ℕ) → (stacks_in claim.now).spared j (address claim.now k) ≡ true →
+        (stacks_in claim.now).spared j (address claim.now n) ≡ true }
 {
     if is_spared(claim, k) {
         is_spared(claim, n)
@@ -302,7 +316,8 @@ fn is_spared_along(claim: &StackClaim<'_>, k: usize, e: usize) -> bool
     requires claim { IsStackClaim claim.now }
     requires edge { e < length claim.now.graph.now.code.edges }
     requires node { k < length claim.now.graph.now.code.nodes }
-    ensures { result ≡ true → (j b : ℕ) → (graph claim.now.graph.now).target e ≡ Some b → (stacks_in claim.now).spared j (address claim.now k) ≡ true → (stacks_in claim.now).spared j b ≡ true }
+    ensures { result ≡ true → (j b : ℕ) → (graph claim.now.graph.now).target e ≡ Some b →
+        (stacks_in claim.now).spared j (address claim.now k) ≡ true → (stacks_in claim.now).spared j b ≡ true }
 {
     match claim.graph.target(e) {
         Some(n) => is_spared_behind(claim, k, n),
@@ -316,7 +331,8 @@ fn is_sound(claim: &StackClaim<'_>, i: Instr, k: usize, e: usize) -> bool
     requires edge { e < length claim.now.graph.now.code.edges }
     requires node { k < length claim.now.graph.now.code.nodes }
     requires instruction { text.instr_at (text_in claim.now) (address claim.now k) ≡ Some i }
-    ensures { result ≡ true → IsEdgeSound (text_in claim.now) (graph claim.now.graph.now) (values_in claim.now) (stacks_in claim.now) i (address claim.now k) e }
+    ensures { result ≡ true → IsEdgeSound (text_in claim.now) (graph claim.now.graph.now) (values_in claim.now) (stacks_in claim.now) i
+        (address claim.now k) e }
 {
     if !is_step_checked(claim, i, k, e) {
         return false;
@@ -341,7 +357,9 @@ fn is_sound_or_dead(claim: &StackClaim<'_>, k: usize, e: usize) -> bool
     requires claim { IsStackClaim claim.now }
     requires edge { e < length claim.now.graph.now.code.edges }
     requires node { k < length claim.now.graph.now.code.nodes }
-    ensures { result ≡ true → (values_in claim.now).live (address claim.now k) ≡ true → (i : Instr) × (text.instr_at (text_in claim.now) (address claim.now k) ≡ Some i) × IsEdgeSound (text_in claim.now) (graph claim.now.graph.now) (values_in claim.now) (stacks_in claim.now) i (address claim.now k) e }
+    ensures { result ≡ true → (values_in claim.now).live (address claim.now k) ≡ true → (i : Instr) ×
+        (text.instr_at (text_in claim.now) (address claim.now k) ≡ Some i) × IsEdgeSound (text_in claim.now) (graph claim.now.graph.now)
+        (values_in claim.now) (stacks_in claim.now) i (address claim.now k) e }
 {
     if is_live(claim, k) {
         match instruction(claim, k) {

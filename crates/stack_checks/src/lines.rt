@@ -28,7 +28,8 @@ fn is_line_as(way: &Way<'_>, j: usize, first: Arc, other: Arc) -> bool
     requires other { values.held (passed_along way.now) ((values_along way.now).forms j).other ≡ Some other }
     requires first_kept { IsKeptOr (Some first) }
     requires other_kept { IsKeptOr (Some other) }
-    ensures { result ≡ true → values.Covers ((values_along way.now).lines (to way.now) j) (values.line_of ((values_along way.now).forms j) (passed_along way.now)) }
+    ensures { result ≡ true → values.Covers ((values_along way.now).lines (to way.now) j)
+        (values.line_of ((values_along way.now).forms j) (passed_along way.now)) }
 {
     covers(
         line(way.claim, way.to, j),
@@ -39,7 +40,8 @@ fn is_line_as(way: &Way<'_>, j: usize, first: Arc, other: Arc) -> bool
 // The same, where they are known.
 fn is_line_by_registers(way: &Way<'_>, j: usize) -> bool
     requires { IsWay way.now }
-    ensures { result ≡ true → values.Covers ((values_along way.now).lines (to way.now) j) (values.line_of ((values_along way.now).forms j) (passed_along way.now)) }
+    ensures { result ≡ true → values.Covers ((values_along way.now).lines (to way.now) j)
+        (values.line_of ((values_along way.now).forms j) (passed_along way.now)) }
 {
     let m = form(way.claim, j);
     match (kept_on(way, m.register), kept_on(way, m.other)) {
@@ -51,7 +53,8 @@ fn is_line_by_registers(way: &Way<'_>, j: usize) -> bool
 // Whether the way says that both registers of a line, which is a difference of them, are different words.
 fn is_told_apart(way: &Way<'_>, j: usize) -> bool
     requires { IsWay way.now }
-    ensures { result ≡ true → values.is_difference (values.said way.now.instr (from way.now) (to way.now)) ((values_along way.now).forms j) ((values_along way.now).at (from way.now)) ≡ true }
+    ensures { result ≡ true → values.is_difference (values.said way.now.instr (from way.now) (to way.now)) ((values_along way.now).forms j)
+        ((values_along way.now).at (from way.now)) ≡ true }
 {
     let claim = way.claim;
     is_difference(
@@ -64,7 +67,8 @@ fn is_told_apart(way: &Way<'_>, j: usize) -> bool
 // Whether it holds what it was but for the number of two registers that are the same.
 fn is_line_without(way: &Way<'_>, j: usize) -> bool
     requires { IsWay way.now }
-    ensures { result ≡ true → values.Covers ((values_along way.now).lines (to way.now) j) (values.without ((values_along way.now).lines (from way.now) j) (((values_along way.now).forms j).shift % 2 ^ 32)) }
+    ensures { result ≡ true → values.Covers ((values_along way.now).lines (to way.now) j)
+        (values.without ((values_along way.now).lines (from way.now) j) (((values_along way.now).forms j).shift % 2 ^ 32)) }
 {
     let shift = form(way.claim, j).shift;
     covers(
@@ -169,7 +173,9 @@ fn is_solved_as(way: &Way<'_>, r: u8, j: usize, adds: u32, other: Arc) -> bool
     requires register { r < 32 }
     requires other { values.held (passed_along way.now) ((values_along way.now).forms j).other ≡ Some other }
     requires kept { IsKeptOr (Some other) }
-    ensures { result ≡ true → values.Covers ((values_along way.now).at (to way.now) r) (values.solved ((values_along way.now).forms j) (values.sum_with ((values_along way.now).lines (from way.now) j) adds) (values.held (passed_along way.now) ((values_along way.now).forms j).other)) }
+    ensures { result ≡ true → values.Covers ((values_along way.now).at (to way.now) r)
+        (values.solved ((values_along way.now).forms j) (values.sum_with ((values_along way.now).lines (from way.now) j) adds)
+        (values.held (passed_along way.now) ((values_along way.now).forms j).other)) }
 {
     let sum = line_more(way, j, adds);
     covers(
@@ -182,7 +188,9 @@ fn is_solved_as(way: &Way<'_>, r: u8, j: usize, adds: u32, other: Arc) -> bool
 fn is_solved_by(way: &Way<'_>, r: u8, j: usize, adds: u32) -> bool
     requires way { IsWay way.now }
     requires register { r < 32 }
-    ensures { result ≡ true → values.Covers ((values_along way.now).at (to way.now) r) (values.solved ((values_along way.now).forms j) (values.sum_with ((values_along way.now).lines (from way.now) j) adds) (values.held (passed_along way.now) ((values_along way.now).forms j).other)) }
+    ensures { result ≡ true → values.Covers ((values_along way.now).at (to way.now) r)
+        (values.solved ((values_along way.now).forms j) (values.sum_with ((values_along way.now).lines (from way.now) j) adds)
+        (values.held (passed_along way.now) ((values_along way.now).forms j).other)) }
 {
     match kept_on(way, form(way.claim, j).other) {
         Some(other) => is_solved_as(way, r, j, adds, other),
@@ -238,7 +246,8 @@ pub fn is_solved(way: &Way<'_>, r: u8) -> bool
 fn is_line_anew(claim: &StackClaim<'_>, n: usize, j: usize) -> bool
     requires claim { IsStackClaim claim.now }
     requires node { n < length claim.now.graph.now.code.nodes }
-    ensures { result ≡ true → values.Covers ((values_in claim.now).lines (address claim.now n) j) (values.line_of ((values_in claim.now).forms j) ((values_in claim.now).at (address claim.now n))) }
+    ensures { result ≡ true → values.Covers ((values_in claim.now).lines (address claim.now n) j)
+        (values.line_of ((values_in claim.now).forms j) ((values_in claim.now).at (address claim.now n))) }
 {
     covers(line(claim, n, j), line_of(form(claim, j), arcs(claim, n)))
 }

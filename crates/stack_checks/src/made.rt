@@ -127,7 +127,8 @@ fn is_line_by(way: &Way<'_>, j: usize, n: Measure) -> bool
 // Whether a line's interval holds a sum before the instruction, by its registers.
 fn is_line_before(way: &Way<'_>, j: usize, n: Measure) -> bool
     requires { IsWay way.now }
-    ensures { result ≡ true → values.Covers ((values_along way.now).lines (to way.now) j) (values.line_of (measure_view n) ((values_along way.now).at (from way.now))) }
+    ensures { result ≡ true → values.Covers ((values_along way.now).lines (to way.now) j)
+        (values.line_of (measure_view n) ((values_along way.now).at (from way.now))) }
 {
     covers(
         line(way.claim, way.to, j),

@@ -35,7 +35,9 @@ pub fn is_covered_by_name(claim: &StackClaim<'_>, n: usize, r: u8) -> bool
     requires claim { IsStackClaim claim.now }
     requires node { n < length claim.now.graph.now.code.nodes }
     requires register { r < 32 }
-    ensures { result ≡ true → values.Covers ((values_in claim.now).at (address claim.now n) r) (stacks.name_arc (values_in claim.now) (stacks_in claim.now) (address claim.now n) ((stacks_in claim.now).name (address claim.now n) r)) }
+    ensures { result ≡ true → values.Covers ((values_in claim.now).at (address claim.now n) r)
+        (stacks.name_arc (values_in claim.now) (stacks_in claim.now) (address claim.now n)
+        ((stacks_in claim.now).name (address claim.now n) r)) }
 {
     covers(arc_at(claim, n, r), name_arc(claim, n, name(claim, n, r)))
 }
@@ -44,7 +46,8 @@ pub fn is_covered_by_name(claim: &StackClaim<'_>, n: usize, r: u8) -> bool
 fn is_covered_over(way: &Way<'_>, r: u8) -> bool
     requires way { IsWay way.now }
     requires register { r < 32 }
-    ensures { result ≡ true → stacks.IsCoveredOver (values_along way.now) (stacks_along way.now) way.now.instr (from way.now) (to way.now) r }
+    ensures { result ≡ true → stacks.IsCoveredOver (values_along way.now) (stacks_along way.now) way.now.instr (from way.now) (to way.now)
+        r }
 {
     is_covered(way, r) || is_covered_by_name(way.claim, way.to, r)
 }
@@ -65,7 +68,8 @@ fn is_name_left(way: &Way<'_>, r: u8) -> bool
     requires way { IsWay way.now }
     requires register { r < 32 }
     ensures same { result ≡ true → (stacks_along way.now).name (to way.now) r ≡ (stacks_along way.now).name (from way.now) r }
-    ensures steady { result ≡ true → stacks.IsSteady (values_along way.now) (stacks_along way.now) (from way.now) way.now.instr ((stacks_along way.now).name (from way.now) r) }
+    ensures steady { result ≡ true → stacks.IsSteady (values_along way.now) (stacks_along way.now) (from way.now) way.now.instr
+        ((stacks_along way.now).name (from way.now) r) }
 {
     let before = name(way.claim, way.from, r);
     is_named(way, r, before) && is_steady(way.claim, way.instr, way.from, before)
@@ -75,7 +79,8 @@ fn is_name_left(way: &Way<'_>, r: u8) -> bool
 fn is_name_more(way: &Way<'_>, r: u8, s: u8, more: u32) -> bool
     requires way { IsWay way.now }
     requires register { r < 32 }
-    ensures { result ≡ true → (stacks_along way.now).name (to way.now) r ≡ stacks.more_of (stacks.name_of (stacks_along way.now) (from way.now) s) more }
+    ensures { result ≡ true → (stacks_along way.now).name (to way.now) r ≡ stacks.more_of
+        (stacks.name_of (stacks_along way.now) (from way.now) s) more }
 {
     is_named(way, r, more_of(name_of(way.claim, way.from, s), more))
 }
@@ -96,7 +101,8 @@ fn exact(way: &Way<'_>, r: u8) -> Option<Arc>
 fn is_name_exact(way: &Way<'_>, r: u8, s: u8, o: u8) -> bool
     requires way { IsWay way.now }
     requires register { r < 32 }
-    ensures { result ≡ true → (c : values.Arc) × stacks.IsExactly (values_along way.now) (from way.now) o c × ((stacks_along way.now).name (to way.now) r ≡ stacks.more_of (stacks.name_of (stacks_along way.now) (from way.now) s) c.low) }
+    ensures { result ≡ true → (c : values.Arc) × stacks.IsExactly (values_along way.now) (from way.now) o c ×
+        ((stacks_along way.now).name (to way.now) r ≡ stacks.more_of (stacks.name_of (stacks_along way.now) (from way.now) s) c.low) }
 {
     match exact(way, o) {
         Some(c) => is_name_more(way, r, s, c.low() as u32),
@@ -121,7 +127,8 @@ fn is_name_sum(way: &Way<'_>, r: u8, rs1: u8, rs2: u8) -> bool
 fn is_name_from(way: &Way<'_>, r: u8, number: u32) -> bool
     requires way { IsWay way.now }
     requires register { r < 32 }
-    ensures { result ≡ true → ((stacks_along way.now).name (to way.now) r ≡ Some (of_word number 0)) ⊎ ((stacks_along way.now).name (to way.now) r ≡ (stacks_along way.now).word_name (from way.now) number) }
+    ensures { result ≡ true → ((stacks_along way.now).name (to way.now) r ≡ Some (of_word number 0)) ⊎
+        ((stacks_along way.now).name (to way.now) r ≡ (stacks_along way.now).word_name (from way.now) number) }
 {
     is_named(way, r, Some(Name::OfWord(number, 0)))
         || is_named(way, r, word(way.claim, way.from, number).name)
@@ -204,7 +211,8 @@ pub fn is_spanned_by_name(claim: &StackClaim<'_>, n: usize, r: u8) -> bool
     requires claim { IsStackClaim claim.now }
     requires node { n < length claim.now.graph.now.code.nodes }
     requires register { r < 32 }
-    ensures { result ≡ true → values.Covers ((stacks_in claim.now).span (address claim.now n) r) (stacks.name_span ((stacks_in claim.now).name (address claim.now n) r)) }
+    ensures { result ≡ true → values.Covers ((stacks_in claim.now).span (address claim.now n) r)
+        (stacks.name_span ((stacks_in claim.now).name (address claim.now n) r)) }
 {
     covers(span(claim, n, r), name_span(name(claim, n, r)))
 }
@@ -222,7 +230,8 @@ pub fn is_span_left(way: &Way<'_>, r: u8) -> bool
 fn is_span_more(way: &Way<'_>, r: u8, s: u8, more: u32) -> bool
     requires way { IsWay way.now }
     requires register { r < 32 }
-    ensures { result ≡ true → values.Covers ((stacks_along way.now).span (to way.now) r) (stacks.known_sum (stacks.span_of (stacks_along way.now) (from way.now) s) more) }
+    ensures { result ≡ true → values.Covers ((stacks_along way.now).span (to way.now) r)
+        (stacks.known_sum (stacks.span_of (stacks_along way.now) (from way.now) s) more) }
 {
     covers(
         span(way.claim, way.to, r),
@@ -234,7 +243,9 @@ fn is_span_more(way: &Way<'_>, r: u8, s: u8, more: u32) -> bool
 fn is_span_adding(way: &Way<'_>, r: u8, s: u8, o: u8) -> bool
     requires way { IsWay way.now }
     requires register { r < 32 }
-    ensures { result ≡ true → values.Covers ((stacks_along way.now).span (to way.now) r) (stacks.known_sums (stacks.span_of (stacks_along way.now) (from way.now) s) (values.held ((values_along way.now).at (from way.now)) o)) }
+    ensures { result ≡ true → values.Covers ((stacks_along way.now).span (to way.now) r)
+        (stacks.known_sums (stacks.span_of (stacks_along way.now) (from way.now) s)
+        (values.held ((values_along way.now).at (from way.now)) o)) }
 {
     covers(
         span(way.claim, way.to, r),
@@ -262,7 +273,8 @@ fn is_span_sum(way: &Way<'_>, r: u8, rs1: u8, rs2: u8) -> bool
 fn is_span_from(way: &Way<'_>, r: u8, number: u32) -> bool
     requires way { IsWay way.now }
     requires register { r < 32 }
-    ensures { result ≡ true → values.Covers ((stacks_along way.now).span (to way.now) r) ((stacks_along way.now).word_span (from way.now) number) }
+    ensures { result ≡ true → values.Covers ((stacks_along way.now).span (to way.now) r)
+        ((stacks_along way.now).word_span (from way.now) number) }
 {
     covers(
         span(way.claim, way.to, r),

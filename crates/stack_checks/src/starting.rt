@@ -39,7 +39,8 @@ fn is_register_started(claim: &StackClaim<'_>, k: usize, r: u8) -> bool
 fn are_registers_started(claim: &StackClaim<'_>, k: usize) -> bool
     requires claim { IsStackClaim claim.now }
     requires node { k < length claim.now.graph.now.code.nodes }
-    ensures { result ≡ true → (r : ℕ) → IsRegister r → IsHeld ((values_in claim.now).at (address claim.now k) r) (reg starting_registers r) }
+    ensures { result ≡ true → (r : ℕ) → IsRegister r → IsHeld ((values_in claim.now).at (address claim.now k) r)
+        (reg starting_registers r) }
 {
     for r in 1..32u8 {
         if !is_register_started(claim, k, r) {
@@ -101,7 +102,8 @@ fn is_plain(claim: &StackClaim<'_>) -> bool
 /// back to their calls.
 pub fn is_stack_analysed(claim: &StackClaim<'_>) -> bool
     requires { IsStackClaim claim.now }
-    ensures { result ≡ true → IsStackAnalysed claim.now.view.now claim.now.graph.now.code (values_of claim.now.graph.now.code claim.now.table.now) (stacks_of claim.now.graph.now.code claim.now.stack.now) }
+    ensures { result ≡ true → IsStackAnalysed claim.now.view.now claim.now.graph.now.code
+        (values_of claim.now.graph.now.code claim.now.table.now) (stacks_of claim.now.graph.now.code claim.now.stack.now) }
 {
     if !is_plain(claim) {
         return false;

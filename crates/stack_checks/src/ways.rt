@@ -101,7 +101,8 @@ pub fn line_more(way: &Way<'_>, k: usize, more: u32) -> Option<Arc>
 /// Whether the interval of line j holds that where the way leads.
 pub fn is_line_more(way: &Way<'_>, j: usize, k: usize, more: u32) -> bool
     requires { IsWay way.now }
-    ensures { result ≡ true → values.Covers ((values_along way.now).lines (to way.now) j) (values.sum_with ((values_along way.now).lines (from way.now) k) more) }
+    ensures { result ≡ true → values.Covers ((values_along way.now).lines (to way.now) j)
+        (values.sum_with ((values_along way.now).lines (from way.now) k) more) }
 {
     covers(line(way.claim, way.to, j), line_more(way, k, more))
 }

@@ -39,7 +39,8 @@ fn is_word_left(way: &Way<'_>, j: u32) -> bool
 // Whether it holds the interval that a register had.
 fn is_word_of(way: &Way<'_>, j: u32, r: u8) -> bool
     requires { IsWay way.now }
-    ensures { result ≡ true → values.Covers ((stacks_along way.now).word (to way.now) j) (values.held ((values_along way.now).at (from way.now)) r) }
+    ensures { result ≡ true → values.Covers ((stacks_along way.now).word (to way.now) j)
+        (values.held ((values_along way.now).at (from way.now)) r) }
 {
     covers(
         word(way.claim, way.to, j).arc,
@@ -63,7 +64,8 @@ fn more_than(way: &Way<'_>, j: u32, r: u8) -> Option<u32>
 fn is_more_covered(way: &Way<'_>, j: u32, r: u8, more: u32) -> bool
     requires way { IsWay way.now }
     requires register { r < 32 }
-    ensures { result ≡ true → values.Covers ((stacks_along way.now).word (to way.now) j) (values.sum_with (passed_along way.now r) (values.opposite_of more)) }
+    ensures { result ≡ true → values.Covers ((stacks_along way.now).word (to way.now) j)
+        (values.sum_with (passed_along way.now r) (values.opposite_of more)) }
 {
     covers(
         word(way.claim, way.to, j).arc,
@@ -159,7 +161,8 @@ fn is_word_covered(way: &Way<'_>, j: u32, source: Source) -> bool
 fn has_steady_name(way: &Way<'_>, j: u32, wanted: Option<Name>) -> bool
     requires { IsWay way.now }
     ensures name { result ≡ true → (stacks_along way.now).word_name (to way.now) j ≡ named wanted }
-    ensures steady { result ≡ true → stacks.IsSteady (values_along way.now) (stacks_along way.now) (from way.now) way.now.instr (named wanted) }
+    ensures steady { result ≡ true → stacks.IsSteady (values_along way.now) (stacks_along way.now) (from way.now) way.now.instr
+        (named wanted) }
 {
     is_same_name(word(way.claim, way.to, j).name, wanted)
         && is_steady(way.claim, way.instr, way.from, wanted)
@@ -169,7 +172,8 @@ fn has_steady_name(way: &Way<'_>, j: u32, wanted: Option<Name>) -> bool
 fn is_name_left(way: &Way<'_>, j: u32) -> bool
     requires { IsWay way.now }
     ensures name { result ≡ true → (stacks_along way.now).word_name (to way.now) j ≡ (stacks_along way.now).word_name (from way.now) j }
-    ensures steady { result ≡ true → stacks.IsSteady (values_along way.now) (stacks_along way.now) (from way.now) way.now.instr ((stacks_along way.now).word_name (from way.now) j) }
+    ensures steady { result ≡ true → stacks.IsSteady (values_along way.now) (stacks_along way.now) (from way.now) way.now.instr
+        ((stacks_along way.now).word_name (from way.now) j) }
 {
     has_steady_name(way, j, word(way.claim, way.from, j).name)
 }
@@ -177,8 +181,10 @@ fn is_name_left(way: &Way<'_>, j: u32) -> bool
 // Whether it has the name that a register had.
 fn is_name_of(way: &Way<'_>, j: u32, r: u8) -> bool
     requires { IsWay way.now }
-    ensures name { result ≡ true → (stacks_along way.now).word_name (to way.now) j ≡ stacks.name_of (stacks_along way.now) (from way.now) r }
-    ensures steady { result ≡ true → stacks.IsSteady (values_along way.now) (stacks_along way.now) (from way.now) way.now.instr (stacks.name_of (stacks_along way.now) (from way.now) r) }
+    ensures name { result ≡ true → (stacks_along way.now).word_name (to way.now) j ≡ stacks.name_of (stacks_along way.now) (from way.now)
+        r }
+    ensures steady { result ≡ true → stacks.IsSteady (values_along way.now) (stacks_along way.now) (from way.now) way.now.instr
+        (stacks.name_of (stacks_along way.now) (from way.now) r) }
 {
     has_steady_name(way, j, name_of(way.claim, way.from, r))
 }
@@ -212,7 +218,8 @@ fn is_word_named(way: &Way<'_>, j: u32, source: Source) -> bool
 fn is_span_named(claim: &StackClaim<'_>, n: usize, j: u32) -> bool
     requires claim { IsStackClaim claim.now }
     requires node { n < length claim.now.graph.now.code.nodes }
-    ensures { result ≡ true → values.Covers ((stacks_in claim.now).word_span (address claim.now n) j) (stacks.name_span ((stacks_in claim.now).word_name (address claim.now n) j)) }
+    ensures { result ≡ true → values.Covers ((stacks_in claim.now).word_span (address claim.now n) j)
+        (stacks.name_span ((stacks_in claim.now).word_name (address claim.now n) j)) }
 {
     covers(word(claim, n, j).span, name_span(word(claim, n, j).name))
 }
@@ -220,7 +227,8 @@ fn is_span_named(claim: &StackClaim<'_>, n: usize, j: u32) -> bool
 // Whether its span holds the one that it had.
 fn is_span_left(way: &Way<'_>, j: u32) -> bool
     requires { IsWay way.now }
-    ensures { result ≡ true → values.Covers ((stacks_along way.now).word_span (to way.now) j) ((stacks_along way.now).word_span (from way.now) j) }
+    ensures { result ≡ true → values.Covers ((stacks_along way.now).word_span (to way.now) j)
+        ((stacks_along way.now).word_span (from way.now) j) }
 {
     covers(
         word(way.claim, way.to, j).span,
@@ -231,7 +239,8 @@ fn is_span_left(way: &Way<'_>, j: u32) -> bool
 // Whether it holds the span that a register had.
 fn is_span_of(way: &Way<'_>, j: u32, r: u8) -> bool
     requires { IsWay way.now }
-    ensures { result ≡ true → values.Covers ((stacks_along way.now).word_span (to way.now) j) (stacks.span_of (stacks_along way.now) (from way.now) r) }
+    ensures { result ≡ true → values.Covers ((stacks_along way.now).word_span (to way.now) j)
+        (stacks.span_of (stacks_along way.now) (from way.now) r) }
 {
     covers(
         word(way.claim, way.to, j).span,
@@ -310,7 +319,8 @@ pub fn are_unknown(claim: &StackClaim<'_>, n: usize) -> bool
 fn is_word_back(way: &Way<'_>, h: usize, j: u32) -> bool
     requires way { IsWay way.now }
     requires entry { h < length way.now.claim.now.graph.now.code.nodes }
-    ensures { result ≡ true → stacks.IsWordBack (values_along way.now) (stacks_along way.now) (from way.now) (address way.now.claim.now h) (to way.now) j }
+    ensures { result ≡ true → stacks.IsWordBack (values_along way.now) (stacks_along way.now) (from way.now) (address way.now.claim.now h)
+        (to way.now) j }
 {
     is_any(way, j) || (is_safe(way.claim, way.from, h, j) && is_word_left(way, j))
 }
@@ -319,7 +329,8 @@ fn is_word_back(way: &Way<'_>, h: usize, j: u32) -> bool
 fn is_name_back(way: &Way<'_>, h: usize, j: u32) -> bool
     requires way { IsWay way.now }
     requires entry { h < length way.now.claim.now.graph.now.code.nodes }
-    ensures { result ≡ true → stacks.IsWordNameBack (values_along way.now) (stacks_along way.now) (from way.now) (address way.now.claim.now h) (to way.now) j }
+    ensures { result ≡ true → stacks.IsWordNameBack (values_along way.now) (stacks_along way.now) (from way.now)
+        (address way.now.claim.now h) (to way.now) j }
 {
     let before = word(way.claim, way.from, j).name;
     is_unnamed(way.claim, way.to, j)
@@ -332,7 +343,8 @@ fn is_name_back(way: &Way<'_>, h: usize, j: u32) -> bool
 fn is_span_back(way: &Way<'_>, h: usize, j: u32) -> bool
     requires way { IsWay way.now }
     requires entry { h < length way.now.claim.now.graph.now.code.nodes }
-    ensures { result ≡ true → stacks.IsWordSpanBack (values_along way.now) (stacks_along way.now) (from way.now) (address way.now.claim.now h) (to way.now) j }
+    ensures { result ≡ true → stacks.IsWordSpanBack (values_along way.now) (stacks_along way.now) (from way.now)
+        (address way.now.claim.now h) (to way.now) j }
 {
     is_span_named(way.claim, way.to, j)
         || (is_safe(way.claim, way.from, h, j) && is_span_left(way, j))

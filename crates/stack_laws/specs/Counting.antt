@@ -26,7 +26,8 @@ HasRegisters (in_word k factor shift) = Unit {0}
 abbrev pub IsAdded : Values → Stacks → Counter → ℕ → Instr → ℕ → Type 0
 IsAdded v w (in_registers m) a i e = effect m i ≡ Some e
 IsAdded v w (in_word k factor shift) a i e =
-    (IsMissed v w a i k × (e ≡ 0)) ⊎ ((r : ℕ) × (more : ℕ) × IsStoredFrom w a i k r × (name_of w a r ≡ Some (of_word k more)) × (e ≡ factor * more % 2 ^ 32))
+    (IsMissed v w a i k × (e ≡ 0)) ⊎ ((r : ℕ) × (more : ℕ) × IsStoredFrom w a i k r × (name_of w a r ≡ Some (of_word k more)) ×
+    (e ≡ factor * more % 2 ^ 32))
 
 -- a register is what it was before a call at u to a function; x0 always is
 abbrev pub IsLeftBy : Text → Values → Stacks → ℕ → ℕ → ℕ → Type 0
@@ -67,12 +68,15 @@ pub record IsStackCertificate (t : Text) (g : Graph) (v : Values) (w : Stacks) (
   -- what is counted as a turn comes from the body
   pub counts : (a : ℕ) → Leads g a header → v.live a ≡ true → extent a ≡ true → c.body a ≡ true
   -- within the body it is known what each instruction adds, and what those of all ways to an address add is the same
-  pub effects : (a b : ℕ) (i : Instr) → Steps g a b → v.live a ≡ true → c.body a ≡ true → instr_at t a ≡ Some i → IsAdded v w c.counter a i (c.adds a)
+  pub effects : (a b : ℕ) (i : Instr) → Steps g a b → v.live a ≡ true → c.body a ≡ true → instr_at t a ≡ Some i →
+      IsAdded v w c.counter a i (c.adds a)
   pub along : (a b : ℕ) → Leads g a b → v.live a ≡ true → c.body a ≡ true → c.body b ≡ true → b ≢ header → c.offset b ≡ added_behind c a
   -- each turn raises the counter by the least at least, and never past 2^32
-  pub turns : (a : ℕ) → Leads g a header → v.live a ≡ true → c.body a ≡ true → (c.least ≤ added_behind c a) × (added_behind c a + c.width < 2 ^ 32)
+  pub turns : (a : ℕ) → Leads g a header → v.live a ≡ true → c.body a ≡ true → (c.least ≤ added_behind c a) ×
+      (added_behind c a + c.width < 2 ^ 32)
   -- calls from the body go to quiet code, and the counter is the same when they come back
-  pub calls : (a b : ℕ) → Calls g a b → v.live a ≡ true → c.body a ≡ true → (c.quiet b ≡ true) × (c.adds a ≡ 0) × IsKeptBy t v w a b c.counter
+  pub calls : (a b : ℕ) → Calls g a b → v.live a ≡ true → c.body a ≡ true → (c.quiet b ≡ true) × (c.adds a ≡ 0) ×
+      IsKeptBy t v w a b c.counter
   -- quiet code stays quiet along its edges and calls, and never comes to the header
   pub quiet_along : (a b : ℕ) → Leads g a b → c.quiet a ≡ true → c.quiet b ≡ true
   pub quiet_calls : (a b : ℕ) → Calls g a b → c.quiet a ≡ true → c.quiet b ≡ true
@@ -80,7 +84,8 @@ pub record IsStackCertificate (t : Text) (g : Graph) (v : Values) (w : Stacks) (
 
 -- the counter is from 0 to the width at an address, by the intervals there
 abbrev pub IsWithin : Values → Stacks → ℕ → Counter → ℕ → Type 0
-IsWithin v w width (in_registers m) a = Covers (Some (arc 0 width)) (line_of m (v.at a)) ⊎ ((j : ℕ) × (v.forms j ≡ m) × Covers (Some (arc 0 width)) (v.lines a j))
+IsWithin v w width (in_registers m) a = Covers (Some (arc 0 width)) (line_of m (v.at a)) ⊎
+    ((j : ℕ) × (v.forms j ≡ m) × Covers (Some (arc 0 width)) (v.lines a j))
 IsWithin v w width (in_word k factor shift) a = Covers (Some (arc 0 width)) (sum_with (scaled factor (w.word a k)) shift)
 
 -- A bound of a loop that the code alone shows.

@@ -25,7 +25,8 @@ use Rattle.stack_laws.specs.Counting.{StackCertificate, IsStackCertificate, IsWi
 -- As long as the returns of a run go back to their calls, all that the tables of an invariant say is so, at each address: of the registers,
 -- of the words of the stack, and of those with which the function began.
 abbrev pub StackValuesHold : Type 0
-StackValuesHold = (t : Text) (env : Setting) (s : State) (code : Code) (v : Values) (w : Stacks) → IsStartOver t env s → IsReachedCode t code → IsStackInvariant t (text_graph t code) v w →
+StackValuesHold = (t : Text) (env : Setting) (s : State) (code : Code) (v : Values) (w : Stacks) → IsStartOver t env s →
+    IsReachedCode t code → IsStackInvariant t (text_graph t code) v w →
     env.layout.keyed ≡ None → AreTold v w s.pc (view_of w s.regs s.regs s.bytes) → AreBytes s.bytes → All (λ x. x < 256) env.input →
     (n : ℕ) (rs : List ℕ) → returns_so (run env s n).steps ≡ Some rs → (run env s n).standing ≡ GoesOn →
     (begun : List ℕ) × AreTold v w (run env s n).state.pc (view_of w begun (run env s n).state.regs (run env s n).state.bytes)
@@ -46,16 +47,19 @@ pub record ComesBackAt (env : Setting) (s : State) (m n : ℕ) (call : Stepped) 
 
 -- As long as the returns of a run go back to their calls, the registers that a function restores are behind a call what they were before it.
 abbrev pub RestoredRegistersHold : Type 0
-RestoredRegistersHold = (t : Text) (env : Setting) (s : State) (code : Code) (v : Values) (w : Stacks) → IsStartOver t env s → IsReachedCode t code → IsStackInvariant t (text_graph t code) v w →
+RestoredRegistersHold = (t : Text) (env : Setting) (s : State) (code : Code) (v : Values) (w : Stacks) → IsStartOver t env s →
+    IsReachedCode t code → IsStackInvariant t (text_graph t code) v w →
     env.layout.keyed ≡ None → AreTold v w s.pc (view_of w s.regs s.regs s.bytes) → AreBytes s.bytes → All (λ x. x < 256) env.input →
     (m n : ℕ) (call : Stepped) → ComesBackAt env s m n call →
-    (to : ℕ) × Calls (text_graph t code) (run env s m).state.pc to × ((r : ℕ) → IsRegister r → IsRestored t v w (run env s m).state.pc to r → reg (run env s m).state.regs r < 2 ^ 32 →
+    (to : ℕ) × Calls (text_graph t code) (run env s m).state.pc to × ((r : ℕ) → IsRegister r →
+    IsRestored t v w (run env s m).state.pc to r → reg (run env s m).state.regs r < 2 ^ 32 →
     reg (run env s n).state.regs r ≡ reg (run env s m).state.regs r)
 
 -- As long as the returns of a run go back to their calls, a loop with a certificate whose counter is within the width at the loop's header
 -- turns no more often than the width allows.
 abbrev pub StackCertificatesBoundTurns : Type 0
-StackCertificatesBoundTurns = (t : Text) (env : Setting) (s : State) (code : Code) (v : Values) (w : Stacks) (l : Loops) (k : ℕ) (c : StackCertificate) → IsStartOver t env s → IsReachedCode t code → IsStackInvariant t (text_graph t code) v w →
+StackCertificatesBoundTurns = (t : Text) (env : Setting) (s : State) (code : Code) (v : Values) (w : Stacks) (l : Loops) (k : ℕ)
+    (c : StackCertificate) → IsStartOver t env s → IsReachedCode t code → IsStackInvariant t (text_graph t code) v w →
     env.layout.keyed ≡ None → AreTold v w s.pc (view_of w s.regs s.regs s.bytes) → AreBytes s.bytes → All (λ x. x < 256) env.input →
     IsStackCertificate t (text_graph t code) v w (l.header k) (l.inside k) c → IsWithin v w c.width c.counter (l.header k) →
     (n : ℕ) (d : Carried) → kept_at env s (unasked l) n ≡ Some d → d.counts k * c.least ≤ c.width
@@ -71,26 +75,33 @@ pub record IsStackAnalysed (image : Image) (code : Code) (v : Values) (w : Stack
 
 -- A run of an image that is kept by some bounds is kept by these, where each loop's bound is shown by the code or is no less than the other.
 abbrev pub ShownBoundsAreKept : Type 0
-ShownBoundsAreKept = (file : List ℕ) (image : Image) (levels : ℕ) (input : List ℕ) (code : Code) (v : Values) (w : Stacks) (l : Loops) (bounds : ℕ → ℕ) → image_of file ≡ Ok image →
+ShownBoundsAreKept = (file : List ℕ) (image : Image) (levels : ℕ) (input : List ℕ) (code : Code) (v : Values) (w : Stacks) (l : Loops)
+    (bounds : ℕ → ℕ) → image_of file ≡ Ok image →
     All (λ x. x < 256) file → All (λ x. x < 256) input → IsStackAnalysed image code v w →
     ((k : ℕ) → k < l.loops → IsShown (text_of image) (text_graph (text_of image) code) v w l k ⊎ (bounds k ≤ l.bound k)) →
     (n : ℕ) → IsKeptUpTo image levels input (with_bounds l bounds) n → IsKeptUpTo image levels input l n
 
 -- Where all bounds are shown, and no loop has to turn, a run is kept if its returns go back to their calls and its calls are not too deep.
 abbrev pub ShownBoundsAreKeptByReturns : Type 0
-ShownBoundsAreKeptByReturns = (file : List ℕ) (image : Image) (levels : ℕ) (input : List ℕ) (code : Code) (v : Values) (w : Stacks) (l : Loops) → image_of file ≡ Ok image →
+ShownBoundsAreKeptByReturns = (file : List ℕ) (image : Image) (levels : ℕ) (input : List ℕ) (code : Code) (v : Values) (w : Stacks)
+    (l : Loops) → image_of file ≡ Ok image →
     All (λ x. x < 256) file → All (λ x. x < 256) input → IsStackAnalysed image code v w →
     ((k : ℕ) → k < l.loops → IsShown (text_of image) (text_graph (text_of image) code) v w l k × (l.least_trips k ≡ 0)) →
-    (n : ℕ) → ((m : ℕ) → m ≤ n → (rs : List ℕ) × (returns_so (run_of image levels input m).steps ≡ Some rs) × (length rs ≤ most_returns)) → IsKeptUpTo image levels input l n
+    (n : ℕ) → ((m : ℕ) → m ≤ n → (rs : List ℕ) × (returns_so (run_of image levels input m).steps ≡ Some rs) × (length rs ≤ most_returns)) →
+    IsKeptUpTo image levels input l n
 
 -- Where the code says so of returns, each return of a run goes back behind its call, and calls are never too deep.
 abbrev pub RunsComeBack : Type 0
-RunsComeBack = (t : Text) (env : Setting) (s : State) (code : Code) (v : Values) (w : Stacks) → IsStartOver t env s → IsReachedCode t code → IsStackInvariant t (text_graph t code) v w → ComesBack t (text_graph t code) v w →
+RunsComeBack = (t : Text) (env : Setting) (s : State) (code : Code) (v : Values) (w : Stacks) → IsStartOver t env s →
+    IsReachedCode t code → IsStackInvariant t (text_graph t code) v w → ComesBack t (text_graph t code) v w →
     env.layout.keyed ≡ None → AreTold v w s.pc (view_of w s.regs s.regs s.bytes) → AreBytes s.bytes → All (λ x. x < 256) env.input →
     (n : ℕ) → (rs : List ℕ) × (returns_so (run env s n).steps ≡ Some rs) × (length rs ≤ most_returns)
 
 -- Where all bounds are shown, no loop has to turn and the code says so of returns, every run of the image is kept, on each input.
 abbrev pub RunsAreKept : Type 0
-RunsAreKept = (file : List ℕ) (image : Image) (levels : ℕ) (input : List ℕ) (code : Code) (v : Values) (w : Stacks) (l : Loops) → image_of file ≡ Ok image →
-    All (λ x. x < 256) file → All (λ x. x < 256) input → IsStackAnalysed image code v w → ComesBack (text_of image) (text_graph (text_of image) code) v w →
-    ((k : ℕ) → k < l.loops → IsShown (text_of image) (text_graph (text_of image) code) v w l k × (l.least_trips k ≡ 0)) → (n : ℕ) → IsKeptUpTo image levels input l n
+RunsAreKept = (file : List ℕ) (image : Image) (levels : ℕ) (input : List ℕ) (code : Code) (v : Values) (w : Stacks) (l : Loops) →
+    image_of file ≡ Ok image →
+    All (λ x. x < 256) file → All (λ x. x < 256) input → IsStackAnalysed image code v w →
+    ComesBack (text_of image) (text_graph (text_of image) code) v w →
+    ((k : ℕ) → k < l.loops → IsShown (text_of image) (text_graph (text_of image) code) v w l k × (l.least_trips k ≡ 0)) → (n : ℕ) →
+    IsKeptUpTo image levels input l n

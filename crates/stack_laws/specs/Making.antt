@@ -33,7 +33,8 @@ joined m =
 
 -- what a sum, whose first register the instruction writes and whose other one it leaves, is of the registers before it
 pub data IsMade (m : Measure) (i : Instr) (n : Measure) : Type 0 where
-  summed : (rs : ℕ) (imm : ℤ) → i ≡ Imm Addi m.register rs imm → n ≡ joined (moved (taken_for m rs) (m.factor * unsigned imm)) → IsMade m i n
+  summed : (rs : ℕ) (imm : ℤ) → i ≡ Imm Addi m.register rs imm → n ≡ joined (moved (taken_for m rs) (m.factor * unsigned imm)) →
+      IsMade m i n
   added : (rs : ℕ) → i ≡ Reg Add m.register m.other rs → n ≡ spread m rs → IsMade m i n
   added_to : (rs : ℕ) → i ≡ Reg Add m.register rs m.other → n ≡ spread m rs → IsMade m i n
 
@@ -49,4 +50,5 @@ pub record IsLineMade (v : Values) (i : Instr) (a b j : ℕ) : Type 0 where
   pub before : Measure
   pub made : IsMade side i before
   pub covers : Covers (v.lines b j) (line_of before (v.at a)) ⊎
-      ((k : ℕ) × (form : Measure) × (more : ℕ) × IsSide form (v.forms k) × (before ≡ moved form more) × Covers (v.lines b j) (sum_with (v.lines a k) more))
+      ((k : ℕ) × (form : Measure) × (more : ℕ) × IsSide form (v.forms k) × (before ≡ moved form more) ×
+      Covers (v.lines b j) (sum_with (v.lines a k) more))

@@ -16,6 +16,7 @@ pub record ComesBack (t : Text) (g : Graph) (v : Values) (w : Stacks) : Type 0 w
   -- by number of a function, so many calls may be open in what it calls
   pub height : ℕ → ℕ
   -- at a return x1 is what it was when the function began, and it isn't the function in which a run begins
-  pub links : (a : ℕ) (i : Instr) → instr_at t a ≡ Some i → move_of i ≡ Return → v.live a ≡ true → (w.name a 1 ≡ Some (of_begin 1 0)) × (v.function a ≢ v.function t.entry)
+  pub links : (a : ℕ) (i : Instr) → instr_at t a ≡ Some i → move_of i ≡ Return → v.live a ≡ true → (w.name a 1 ≡ Some (of_begin 1 0)) ×
+      (v.function a ≢ v.function t.entry)
   pub lower : (a b : ℕ) → Calls g a b → v.live a ≡ true → height (v.function b) < height (v.function a)
   pub top : height (v.function t.entry) ≤ most_returns

@@ -154,7 +154,8 @@ IsApart at width other = (width ≤ ahead at other) × (4 ≤ ahead other at)
 abbrev pub AreApart : Option Arc → ℕ → Option Arc → Type 0
 AreApart None width words = ⊥
 AreApart (Some i) width None = ⊥
-AreApart (Some i) width (Some j) = (i.more < ahead i.low j.low) × (width + i.more ≤ ahead i.low j.low) × (ahead i.low j.low + j.more + 4 ≤ 2 ^ 32)
+AreApart (Some i) width (Some j) = (i.more < ahead i.low j.low) × (width + i.more ≤ ahead i.low j.low) ×
+    (ahead i.low j.low + j.more + 4 ≤ 2 ^ 32)
 
 -- a number that is not in the interval
 abbrev pub HasNot : Option Arc → ℕ → Type 0
@@ -194,7 +195,8 @@ IsBelow (Some i) o width = (i.low + i.more < 2 ^ 32) × (opposite_of o ≤ i.low
 abbrev pub AreBelow : Option Arc → Option Arc → ℕ → Type 0
 AreBelow None span width = ⊥
 AreBelow (Some i) None width = ⊥
-AreBelow (Some i) (Some j) width = (i.low + i.more < 2 ^ 32) × (0 < j.low) × (j.low + j.more < 2 ^ 32) × (opposite_of j.low ≤ i.low) × (width ≤ opposite_of (j.low + j.more))
+AreBelow (Some i) (Some j) width = (i.low + i.more < 2 ^ 32) × (0 < j.low) × (j.low + j.more < 2 ^ 32) × (opposite_of j.low ≤ i.low) ×
+    (width ≤ opposite_of (j.low + j.more))
 
 -- it misses a word of what waits for the function
 abbrev pub IsSparing : Values → Stacks → ℕ → Instr → ℕ → Type 0
@@ -228,8 +230,10 @@ pub data IsNamedOver (v : Values) (w : Stacks) (i : Instr) (a b r : ℕ) : Type 
   unnamed : w.name b r ≡ None → IsNamedOver v w i a b r
   kept : keeps r i ≡ true → w.name b r ≡ w.name a r → IsSteady v w a i (w.name a r) → IsNamedOver v w i a b r
   summed : (rs : ℕ) (imm : ℤ) → i ≡ Imm Addi r rs imm → w.name b r ≡ more_of (name_of w a rs) (unsigned imm) → IsNamedOver v w i a b r
-  added : (rs1 rs2 : ℕ) (c : Arc) → i ≡ Reg Add r rs1 rs2 → IsExactly v a rs2 c → w.name b r ≡ more_of (name_of w a rs1) c.low → IsNamedOver v w i a b r
-  added_to : (rs1 rs2 : ℕ) (c : Arc) → i ≡ Reg Add r rs1 rs2 → IsExactly v a rs1 c → w.name b r ≡ more_of (name_of w a rs2) c.low → IsNamedOver v w i a b r
+  added : (rs1 rs2 : ℕ) (c : Arc) → i ≡ Reg Add r rs1 rs2 → IsExactly v a rs2 c → w.name b r ≡ more_of (name_of w a rs1) c.low →
+      IsNamedOver v w i a b r
+  added_to : (rs1 rs2 : ℕ) (c : Arc) → i ≡ Reg Add r rs1 rs2 → IsExactly v a rs1 c → w.name b r ≡ more_of (name_of w a rs2) c.low →
+      IsNamedOver v w i a b r
   loaded : (k : ℕ) → IsLoadedTo w a i k r → w.name b r ≡ Some (of_word k 0) → IsNamedOver v w i a b r
   loaded_as : (k : ℕ) → IsLoadedTo w a i k r → w.name b r ≡ w.word_name a k → IsNamedOver v w i a b r
   stored : (k : ℕ) → IsStoredFrom w a i k r → is_some (v.at a r) ≡ true → w.name b r ≡ Some (of_word k 0) → IsNamedOver v w i a b r
@@ -239,7 +243,8 @@ pub data IsWordCovered (v : Values) (w : Stacks) (i : Instr) (a b k : ℕ) : Typ
   any : Covers (w.word b k) word → IsWordCovered v w i a b k
   kept : IsMissed v w a i k → Covers (w.word b k) (w.word a k) → IsWordCovered v w i a b k
   stored : (r : ℕ) → IsStoredFrom w a i k r → Covers (w.word b k) (held (v.at a) r) → IsWordCovered v w i a b k
-  tied : (r more : ℕ) → IsRegister r → keeps r i ≡ true → w.name a r ≡ Some (of_word k more) → IsMissed v w a i k → Covers (w.word b k) (sum_with (passed i a b (v.at a) r) (opposite_of more)) → IsWordCovered v w i a b k
+  tied : (r more : ℕ) → IsRegister r → keeps r i ≡ true → w.name a r ≡ Some (of_word k more) → IsMissed v w a i k →
+      Covers (w.word b k) (sum_with (passed i a b (v.at a) r) (opposite_of more)) → IsWordCovered v w i a b k
 
 -- a word's name at b: none, the one it had, or that of a register that is stored
 pub data IsWordNamed (v : Values) (w : Stacks) (i : Instr) (a b k : ℕ) : Type 0 where
@@ -252,9 +257,12 @@ pub data IsSpannedOver (v : Values) (w : Stacks) (i : Instr) (a b r : ℕ) : Typ
   unspanned : w.span b r ≡ None → IsSpannedOver v w i a b r
   kept : keeps r i ≡ true → Covers (w.span b r) (w.span a r) → IsSpannedOver v w i a b r
   by_name : Covers (w.span b r) (name_span (w.name b r)) → IsSpannedOver v w i a b r
-  summed : (rs : ℕ) (imm : ℤ) → i ≡ Imm Addi r rs imm → Covers (w.span b r) (known_sum (span_of w a rs) (unsigned imm)) → IsSpannedOver v w i a b r
-  added : (rs1 rs2 : ℕ) → i ≡ Reg Add r rs1 rs2 → Covers (w.span b r) (known_sums (span_of w a rs1) (held (v.at a) rs2)) → IsSpannedOver v w i a b r
-  added_to : (rs1 rs2 : ℕ) → i ≡ Reg Add r rs1 rs2 → Covers (w.span b r) (known_sums (span_of w a rs2) (held (v.at a) rs1)) → IsSpannedOver v w i a b r
+  summed : (rs : ℕ) (imm : ℤ) → i ≡ Imm Addi r rs imm → Covers (w.span b r) (known_sum (span_of w a rs) (unsigned imm)) →
+      IsSpannedOver v w i a b r
+  added : (rs1 rs2 : ℕ) → i ≡ Reg Add r rs1 rs2 → Covers (w.span b r) (known_sums (span_of w a rs1) (held (v.at a) rs2)) →
+      IsSpannedOver v w i a b r
+  added_to : (rs1 rs2 : ℕ) → i ≡ Reg Add r rs1 rs2 → Covers (w.span b r) (known_sums (span_of w a rs2) (held (v.at a) rs1)) →
+      IsSpannedOver v w i a b r
   loaded : (k : ℕ) → IsLoadedTo w a i k r → Covers (w.span b r) (w.word_span a k) → IsSpannedOver v w i a b r
 
 -- a word's span at b: the one it had, by its name, or that of a register that is stored
@@ -323,7 +331,8 @@ pub data IsRegisterBack (t : Text) (v : Values) (w : Stacks) (u to b r : ℕ) : 
   by_name : Covers (v.at b r) (name_arc v w b (w.name b r)) → IsRegisterBack t v w u to b r
 
 pub data IsSumBack (t : Text) (v : Values) (w : Stacks) (u to b j : ℕ) : Type 0 where
-  restored : IsRestored t v w u to (v.forms j).register → IsRestored t v w u to (v.forms j).other → Covers (v.lines b j) (v.lines u j) → IsSumBack t v w u to b j
+  restored : IsRestored t v w u to (v.forms j).register → IsRestored t v w u to (v.forms j).other → Covers (v.lines b j) (v.lines u j) →
+      IsSumBack t v w u to b j
   anew : Covers (v.lines b j) (line_of (v.forms j) (v.at b)) → IsSumBack t v w u to b j
 
 pub data IsNameBack (t : Text) (v : Values) (w : Stacks) (u to b r : ℕ) : Type 0 where
@@ -374,8 +383,10 @@ pub record IsStackInvariant (t : Text) (g : Graph) (v : Values) (w : Stacks) : T
   pub back : (u to b : ℕ) → Calls g u to → Leads g u b → v.live u ≡ true → AreBack t v w u to b
   pub functions : (a b : ℕ) → Leads g a b → v.function b ≡ v.function a
   pub spared_along : (k a b : ℕ) → Leads g a b → w.spared k a ≡ true → w.spared k b ≡ true
-  pub spared_calls : (k a b : ℕ) → Calls g a b → v.live a ≡ true → w.spared k a ≡ true → (w.spared k b ≡ true) × (more : ℕ) × IsDescending v w a more
-  pub spares : (k e : ℕ) (i : Instr) → e < g.edges → v.live (g.source e) ≡ true → w.spared k (g.source e) ≡ true → instr_at t (g.source e) ≡ Some i → IsSparing v w (g.source e) i k
+  pub spared_calls : (k a b : ℕ) → Calls g a b → v.live a ≡ true → w.spared k a ≡ true → (w.spared k b ≡ true) × (more : ℕ) ×
+      IsDescending v w a more
+  pub spares : (k e : ℕ) (i : Instr) → e < g.edges → v.live (g.source e) ≡ true → w.spared k (g.source e) ≡ true →
+      instr_at t (g.source e) ≡ Some i → IsSparing v w (g.source e) i k
 
 -- all that the tables say is so of a view at an address
 pub record AreTold (v : Values) (w : Stacks) (a : ℕ) (x : View) : Type 0 where

@@ -18,7 +18,8 @@ use wrapped_intervals::{Arc, Measure, keeps};
 pub fn is_missed_by(claim: &StackClaim<'_>, i: Instr, k: usize, word: u32) -> bool
     requires claim { IsStackClaim claim.now }
     requires node { k < length claim.now.graph.now.code.nodes }
-    ensures { result ≡ true → (a : ℕ) → slice_get claim.now.graph.now.code.nodes k ≡ Some a → stacks.IsMissed (claim_values claim.now) (claim_stacks claim.now) a i word }
+    ensures { result ≡ true → (a : ℕ) → slice_get claim.now.graph.now.code.nodes k ≡ Some a →
+        stacks.IsMissed (claim_values claim.now) (claim_stacks claim.now) a i word }
 {
     is_missed(claim, i, k, word)
 }
@@ -28,7 +29,8 @@ pub fn is_safe_at(claim: &StackClaim<'_>, u: usize, h: usize, word: u32) -> bool
     requires claim { IsStackClaim claim.now }
     requires from { u < length claim.now.graph.now.code.nodes }
     requires entry { h < length claim.now.graph.now.code.nodes }
-    ensures { result ≡ true → (a b : ℕ) → slice_get claim.now.graph.now.code.nodes u ≡ Some a → slice_get claim.now.graph.now.code.nodes h ≡ Some b → stacks.IsSafe (claim_values claim.now) (claim_stacks claim.now) a b word }
+    ensures { result ≡ true → (a b : ℕ) → slice_get claim.now.graph.now.code.nodes u ≡ Some a →
+        slice_get claim.now.graph.now.code.nodes h ≡ Some b → stacks.IsSafe (claim_values claim.now) (claim_stacks claim.now) a b word }
 {
     is_safe(claim, u, h, word)
 }
@@ -39,7 +41,9 @@ pub fn is_restored_by(claim: &StackClaim<'_>, i: Instr, u: usize, h: usize, r: u
     requires from { u < length claim.now.graph.now.code.nodes }
     requires entry { h < length claim.now.graph.now.code.nodes }
     requires register { r < 32 }
-    ensures { result ≡ true → (a b : ℕ) → slice_get claim.now.graph.now.code.nodes u ≡ Some a → slice_get claim.now.graph.now.code.nodes h ≡ Some b → instr_at (claim_text claim.now) a ≡ Some i → stacks.IsRestored (claim_text claim.now) (claim_values claim.now) (claim_stacks claim.now) a b r }
+    ensures { result ≡ true → (a b : ℕ) → slice_get claim.now.graph.now.code.nodes u ≡ Some a →
+        slice_get claim.now.graph.now.code.nodes h ≡ Some b → instr_at (claim_text claim.now) a ≡ Some i →
+        stacks.IsRestored (claim_text claim.now) (claim_values claim.now) (claim_stacks claim.now) a b r }
 {
     is_restored(claim, h, r) && keeps(r, i)
 }
@@ -48,7 +52,8 @@ pub fn is_restored_by(claim: &StackClaim<'_>, i: Instr, u: usize, h: usize, r: u
 pub fn stored_word(claim: &StackClaim<'_>, i: Instr, k: usize) -> Option<(u32, u8)>
     requires claim { IsStackClaim claim.now }
     requires node { k < length claim.now.graph.now.code.nodes }
-    ensures { IfSome result (λ p. (a : ℕ) → slice_get claim.now.graph.now.code.nodes k ≡ Some a → stacks.IsStoredFrom (claim_stacks claim.now) a i p.0 p.1) }
+    ensures { IfSome result (λ p. (a : ℕ) → slice_get claim.now.graph.now.code.nodes k ≡ Some a →
+        stacks.IsStoredFrom (claim_stacks claim.now) a i p.0 p.1) }
 {
     stored_from(claim, i, k)
 }
@@ -57,7 +62,8 @@ pub fn stored_word(claim: &StackClaim<'_>, i: Instr, k: usize) -> Option<(u32, u
 pub fn name_at(claim: &StackClaim<'_>, k: usize, r: u8) -> Option<Name>
     requires claim { IsStackClaim claim.now }
     requires node { k < length claim.now.graph.now.code.nodes }
-    ensures { (a : ℕ) → slice_get claim.now.graph.now.code.nodes k ≡ Some a → option_map name_view result ≡ stacks.name_of (claim_stacks claim.now) a r }
+    ensures { (a : ℕ) → slice_get claim.now.graph.now.code.nodes k ≡ Some a →
+        option_map name_view result ≡ stacks.name_of (claim_stacks claim.now) a r }
 {
     name_of(claim, k, r)
 }
@@ -126,7 +132,8 @@ fn line_found(claim: &StackClaim<'_>, k: usize, m: Measure) -> Option<Arc>
 pub fn line_at(claim: &StackClaim<'_>, k: usize, m: Measure) -> Option<Arc>
     requires claim { IsStackClaim claim.now }
     requires node { k < length claim.now.graph.now.code.nodes }
-    ensures line { IfSome result (λ arc. (a : ℕ) → slice_get claim.now.graph.now.code.nodes k ≡ Some a → IsLineOf (claim_values claim.now) a (measure_view m) arc) }
+    ensures line { IfSome result (λ arc. (a : ℕ) → slice_get claim.now.graph.now.code.nodes k ≡ Some a →
+        IsLineOf (claim_values claim.now) a (measure_view m) arc) }
     ensures kept { IsKeptOr result }
 {
     line_found(claim, k, m)

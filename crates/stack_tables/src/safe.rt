@@ -35,7 +35,9 @@ pub fn descending(claim: &StackClaim<'_>, k: usize) -> Option<u32>
 fn is_placed(claim: &StackClaim<'_>, u: usize, number: u32) -> bool
     requires claim { IsStackClaim claim.now }
     requires node { u < length claim.now.graph.now.code.nodes }
-    ensures { result ≡ true → values.Covers ((stacks_in claim.now).place number) (values.sum_with ((stacks_in claim.now).begins ((values_in claim.now).function (address claim.now u))) ((stacks_in claim.now).offset number)) }
+    ensures { result ≡ true → values.Covers ((stacks_in claim.now).place number)
+        (values.sum_with ((stacks_in claim.now).begins ((values_in claim.now).function (address claim.now u)))
+        ((stacks_in claim.now).offset number)) }
 {
     covers(
         place(claim),
@@ -65,7 +67,8 @@ pub fn is_name_safe(claim: &StackClaim<'_>, u: usize, h: usize, name: Option<Nam
     requires claim { IsStackClaim claim.now }
     requires from { u < length claim.now.graph.now.code.nodes }
     requires entry { h < length claim.now.graph.now.code.nodes }
-    ensures { result ≡ true → stacks.IsNameSafe (values_in claim.now) (stacks_in claim.now) (address claim.now u) (address claim.now h) (named name) }
+    ensures { result ≡ true → stacks.IsNameSafe (values_in claim.now) (stacks_in claim.now) (address claim.now u) (address claim.now h)
+        (named name) }
 {
     match name {
         Some(Name::OfWord(number, _)) => is_safe(claim, u, h, number),
@@ -82,7 +85,8 @@ pub fn is_given_back(claim: &StackClaim<'_>, i: Instr, u: usize, h: usize, r: u8
     requires entry { h < length claim.now.graph.now.code.nodes }
     requires register { r < 32 }
     requires instruction { text.instr_at (text_in claim.now) (address claim.now u) ≡ Some i }
-    ensures { result ≡ true → stacks.IsRestored (text_in claim.now) (values_in claim.now) (stacks_in claim.now) (address claim.now u) (address claim.now h) r }
+    ensures { result ≡ true → stacks.IsRestored (text_in claim.now) (values_in claim.now) (stacks_in claim.now) (address claim.now u)
+        (address claim.now h) r }
 {
     is_restored(claim, h, r) && keeps(r, i)
 }

@@ -228,7 +228,8 @@ fn is_store_far(
     requires claim { IsStackClaim claim.now }
     requires node { k < length claim.now.graph.now.code.nodes }
     requires words { IsFoundOr words }
-    ensures { result ≡ true → stacks.AreApart (values.sum_with (values.held ((values_in claim.now).at (address claim.now k)) rs1) (unsigned offset)) (store_width op) words }
+    ensures { result ≡ true → stacks.AreApart (values.sum_with (values.held ((values_in claim.now).at (address claim.now k)) rs1)
+        (unsigned offset)) (store_width op) words }
 {
     are_apart(
         sum_with(held_at(claim, k, rs1), u64::from(offset.cast_unsigned())),
@@ -298,7 +299,8 @@ fn most_stored(claim: &StackClaim<'_>, k: usize, i: Instr) -> u64
 fn is_missed_by_name(claim: &StackClaim<'_>, i: Instr, k: usize, number: u32) -> bool
     requires claim { IsStackClaim claim.now }
     requires node { k < length claim.now.graph.now.code.nodes }
-    ensures { result ≡ true → (o : ℕ) × (stacks.stored_at (stacks_in claim.now) (address claim.now k) i ≡ Some o) × stacks.IsApart o (stacks.width_stored i) ((stacks_in claim.now).offset number) }
+    ensures { result ≡ true → (o : ℕ) × (stacks.stored_at (stacks_in claim.now) (address claim.now k) i ≡ Some o) ×
+        stacks.IsApart o (stacks.width_stored i) ((stacks_in claim.now).offset number) }
 {
     match stored_at(claim, k, i) {
         Some(o) => is_apart(u64::from(o), width_stored(i), offset(claim, number)),
@@ -310,7 +312,9 @@ fn is_missed_by_name(claim: &StackClaim<'_>, i: Instr, k: usize, number: u32) ->
 fn is_missed_by_span(claim: &StackClaim<'_>, i: Instr, k: usize, number: u32) -> bool
     requires claim { IsStackClaim claim.now }
     requires node { k < length claim.now.graph.now.code.nodes }
-    ensures { result ≡ true → stacks.AreApart (stacks.stored_span (values_in claim.now) (stacks_in claim.now) (address claim.now k) i) (stacks.most_stored (values_in claim.now) (address claim.now k) i) (Some (values.strided ((stacks_in claim.now).offset number) 0 0)) }
+    ensures { result ≡ true → stacks.AreApart (stacks.stored_span (values_in claim.now) (stacks_in claim.now) (address claim.now k) i)
+        (stacks.most_stored (values_in claim.now) (address claim.now k) i) (Some
+        (values.strided ((stacks_in claim.now).offset number) 0 0)) }
 {
     are_apart(
         stored_span(claim, k, i),
@@ -338,7 +342,8 @@ pub fn is_missed(claim: &StackClaim<'_>, i: Instr, k: usize, number: u32) -> boo
 fn is_below_by_name(claim: &StackClaim<'_>, i: Instr, k: usize) -> bool
     requires claim { IsStackClaim claim.now }
     requires node { k < length claim.now.graph.now.code.nodes }
-    ensures { result ≡ true → (o : ℕ) × (stacks.stored_at (stacks_in claim.now) (address claim.now k) i ≡ Some o) × stacks.IsBelow ((stacks_in claim.now).begins ((values_in claim.now).function (address claim.now k))) o (stacks.width_stored i) }
+    ensures { result ≡ true → (o : ℕ) × (stacks.stored_at (stacks_in claim.now) (address claim.now k) i ≡ Some o) ×
+        stacks.IsBelow ((stacks_in claim.now).begins ((values_in claim.now).function (address claim.now k))) o (stacks.width_stored i) }
 {
     match stored_at(claim, k, i) {
         Some(o) => is_below(begins(claim, k), u64::from(o), width_stored(i)),
@@ -350,7 +355,9 @@ fn is_below_by_name(claim: &StackClaim<'_>, i: Instr, k: usize) -> bool
 fn is_below_by_span(claim: &StackClaim<'_>, i: Instr, k: usize) -> bool
     requires claim { IsStackClaim claim.now }
     requires node { k < length claim.now.graph.now.code.nodes }
-    ensures { result ≡ true → stacks.AreBelow ((stacks_in claim.now).begins ((values_in claim.now).function (address claim.now k))) (stacks.stored_span (values_in claim.now) (stacks_in claim.now) (address claim.now k) i) (stacks.most_stored (values_in claim.now) (address claim.now k) i) }
+    ensures { result ≡ true → stacks.AreBelow ((stacks_in claim.now).begins ((values_in claim.now).function (address claim.now k)))
+        (stacks.stored_span (values_in claim.now) (stacks_in claim.now) (address claim.now k) i)
+        (stacks.most_stored (values_in claim.now) (address claim.now k) i) }
 {
     are_below(
         begins(claim, k),

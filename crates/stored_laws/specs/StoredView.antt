@@ -1,4 +1,4 @@
--- The image that a stored file is read as.
+-- Scaffold: the image that a stored file is read as.
 use Rattle.std.specs.Prelude.{◌≡◌, ℕ, ◌+◌, ◌^◌, ◌<◌, ◌≤◌, length, List, [], ◌∷◌, map, All, IsTrue, nat_le, if◌then◌else◌, Some, None, slice_range}
 use Rattle.scale_base.specs.declared.ranges.Patch.{Patch}
 use Rattle.scale_base.specs.Spans.{round_up}

@@ -9,21 +9,20 @@ use Rattle.scale_base.specs.Image.{Image, image_of, is_word_address}
 use Rattle.scale_base.specs.Word.{word_of}
 use Rattle.power_model.specs.Numbers.{PowerModel, IsPowerModel}
 use Rattle.power_model.specs.Slowest.{slowest_of}
-use Rattle.machine_file.specs.Machine.{read_machine}
 use Rattle.machine_file.proofs.Laws.{model-from_bytes}
 use Rattle.loop_file.specs.declared.notes.LoopNote.{LoopNote}
-use Rattle.loop_file.specs.Loops.{read_loops}
 use Rattle.elf_patch.specs.Stored.{held_base, stored_image}
 use Rattle.stub_writer.specs.Stubs.{Site, block_bytes, block_size, jump, out_of_reach, patches_from, stub_len}
 use Rattle.rewritten_runs.specs.Stubs.{marks_by_slack, rewritten_file}
 use Rattle.rewritten_runs.proofs.Laws.{block_bytes_len, supplied}
-use Rattle.answer_parts.specs.Parts.{unscaled}
 use Rattle.scaler.specs.Held.{held_at, held_file, held_from, held_summary}
 use Rattle.scaler.specs.Rewritten.{IsProgramRewritten, IsRewrittenProgram}
 use Rattle.marked_images.specs.Stored.{rewritten_summary}
 use Rattle.scaler.specs.RewrittenAs.{IsRewrittenAs, notes_with, with_gain}
-use Rattle.marked_images.proofs.Laws.{file_is, is_unscaled, near_of, read_again, then_ok}
-use Rattle.scaler.proofs.Laws.{held_parts, rewritten_parts}
+use Rattle.program_sources.specs.Sources.{sources_of}
+use Rattle.program_sources.proofs.Laws.{no_key, sources_parts, then_ok}
+use Rattle.marked_images.proofs.Laws.{file_is, near_of, read_again}
+use Rattle.scaler.proofs.Laws.{held_parts, model_with, rewritten_parts}
 use Rattle.gain_tuner.specs.Candidates.{IsCandidate}
 use Rattle.stored_lengths.specs.Laws.{HeldImagesAreShort, ImagesRewrittenAsAreShort, RewrittenImagesAreShort, StubbedFilesAreShort, TunedImagesAreShort}
 use Rattle.stored_lengths.proofs.Blocks.{block_small}
@@ -87,19 +86,6 @@ rewritten_short image machine loops stored summary short h =
 
 -- ---- what is rewritten with other choices
 
-gained_model : (power : PowerModel) (min_gain : ℕ) → IsPowerModel power → IsPowerModel (with_gain power min_gain)
-gained_model power min_gain is = record {
-  some = is.some;
-  few = is.few;
-  positive = is.positive;
-  ranked = is.ranked;
-  costs = is.costs;
-  deadline_from = is.deadline_from;
-  deadline_to = is.deadline_to;
-  steps_from = is.steps_from;
-  steps_to = is.steps_to;
-}
-
 program_of : (power : PowerModel) (image : Image) (notes : List LoopNote) (given : List ℕ × Summary) → IsRewrittenProgram power image notes (Ok given) → IsProgramRewritten power image notes (Ok given)
 program_of power image notes given (inl h) = let e : Ok given ≡ Err h.refusal = h.answer_is in absurd cc
 program_of power image notes given (inr (inl h)) = let e : Ok given ≡ Err h.refusal = h.answer_is in absurd cc
@@ -112,14 +98,13 @@ pub rewritten_as_short : ImagesRewrittenAsAreShort
 unfolding IsRewrittenAs
 rewritten_as_short image machine loops min_gain counters stored summary short h =
     let given : List ℕ × Summary = (stored, summary) in
-    let a = then_ok (read_machine machine) _ given h in
-    let b = then_ok (image_of image) _ given a.2 in
-    let c = then_ok (unscaled b.0.keyed_segment) _ given b.2 in
-    let d = then_ok (read_loops b.0 loops) _ given c.2 in
-    let power = with_gain a.0 min_gain in
-    let notes = notes_with counters d.0 in
-    let ok = gained_model a.0 min_gain (model-from_bytes machine a.0 a.1) in
-    program_short power image b.0 notes given ok b.1 (is_unscaled b.0.keyed_segment c.1) short (program_of power b.0 notes given d.2)
+    let read = then_ok (sources_of image machine loops) _ given h in
+    let s = sources_parts image machine loops read.0 read.1 in
+    let original = read.0.view in
+    let power = with_gain read.0.power min_gain in
+    let notes = notes_with counters read.0.notes in
+    let ok = model_with read.0.power min_gain (model-from_bytes machine read.0.power s.power_is) in
+    program_short power image original notes given ok s.view_is (no_key original.keyed_segment s.unscaled) short (program_of power original notes given read.2)
 
 -- ---- what is tuned
 

@@ -1,4 +1,4 @@
--- Stored images are short: a command that takes one takes at most 8,388,608 bytes of it, and no stored image of a file that a command takes is longer.
+-- Scaffold: stored images are short: a command that takes one takes at most 8,388,608 bytes of it, and no stored image of a file that a command takes is longer.
 use Rattle.std.specs.Prelude.{◌≡◌, ℕ, ◌≤◌, min, All, Bool, List, length, None, Ok}
 use Rattle.scale_base.specs.declared.summary.Summary.{Summary}
 use Rattle.scale_base.specs.declared.summary.Tuned.{Tuned}

@@ -1,4 +1,4 @@
--- Words and bytes that lie in the keyed segment.
+-- Scaffold: words and bytes that lie in the keyed segment.
 use Rattle.std.specs.Prelude.{◌≡◌, ℕ, ℤ, ◌+◌, ◌*◌, ◌^◌, ◌<◌, ◌≤◌, ◌%◌, true, List, [], ◌∷◌, length, get_or, None, false}
 use Rattle.scale_base.specs.declared.instruction.BranchOp.{BranchOp}
 use Rattle.scale_base.specs.declared.instruction.Instr.{Instr}

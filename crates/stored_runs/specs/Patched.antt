@@ -1,4 +1,4 @@
--- An image and one of which some instructions are patched: each leads to its stub, which may stand anywhere in the keyed segment.
+-- Scaffold: an image and one of which some instructions are patched: each leads to its stub, which may stand anywhere in the keyed segment.
 use Rattle.std.specs.Prelude.{◌≡◌, ℕ, ◌+◌, ◌/◌, ◌%◌, ◌^◌, ◌<◌, ◌≤◌, true, false, List, length, All, Some, None, Ok}
 use Rattle.scale_base.specs.declared.fragments.Fragment.{Fragment}
 use Rattle.scale_base.specs.declared.fragments.Fragment.TheVariants.{Switch, Exit, Reset, Count, Lowest, Tally}
@@ -16,11 +16,13 @@ use Rattle.stored_runs.specs.Stubbed.{IsTable, AreOrdered, IsOfImage}
 -- A fragment whose tables hold levels, and that has a row for each count up to the counter's limit.
 abbrev pub IsSafeFragment : ℕ → (ℕ → ℕ) → Fragment → Type 0
 IsSafeFragment levels limits (Switch word) = IsTable levels word
-IsSafeFragment levels limits (Exit counter shift rows) = IsShadow counter × (shift < 32) × (limits counter / 2 ^ shift < length rows) × All (IsTable levels) rows
+IsSafeFragment levels limits (Exit counter shift rows) = IsShadow counter × (shift < 32) × (limits counter / 2 ^ shift < length rows) ×
+    All (IsTable levels) rows
 IsSafeFragment levels limits (Reset counter) = IsShadow counter
 IsSafeFragment levels limits (Count counter) = IsShadow counter
 IsSafeFragment levels limits (Lowest down) = Unit {0}
-IsSafeFragment levels limits (Tally counter shift from) = IsShadow counter × (shift < 32) × (1 ≤ from) × (from < 2048) × (limits counter + 1 < 2 ^ 31)
+IsSafeFragment levels limits (Tally counter shift from) = IsShadow counter × (shift < 32) × (1 ≤ from) × (from < 2048) ×
+    (limits counter + 1 < 2 ^ 31)
 
 -- the fragments of an edge, and the address to which it leads
 pub record IsSafeEdge (levels : ℕ) (limits : ℕ → ℕ) (w : Way) : Type 0 where
@@ -55,9 +57,12 @@ pub record IsPatched (image patched : Image) (levels : ℕ) (limits : ℕ → �
   pub entry : patched.entry ≡ image.entry
   pub text : patched.text ≡ image.text
   pub segments : (layout_of patched).parts ≡ (layout_of image).parts
-  pub bytes : (a : ℕ) → in_text (layout_of patched) a ≡ false → is_keyed (layout_of patched) a ≡ false → loaded_byte patched a ≡ loaded_byte image a
-  pub words : (at : ℕ) → is_word_address image at ≡ true → place_at sites at ≡ None → word_at (loaded_byte patched) at ≡ word_at (loaded_byte image) at
-  pub stubs : (input : List ℕ) (at : ℕ) (p : Place) → is_word_address image at ≡ true → place_at sites at ≡ Some p → HasStub image (setting_of patched levels input) (loaded_byte patched) limits at p
+  pub bytes : (a : ℕ) → in_text (layout_of patched) a ≡ false → is_keyed (layout_of patched) a ≡ false →
+      loaded_byte patched a ≡ loaded_byte image a
+  pub words : (at : ℕ) → is_word_address image at ≡ true → place_at sites at ≡ None →
+      word_at (loaded_byte patched) at ≡ word_at (loaded_byte image) at
+  pub stubs : (input : List ℕ) (at : ℕ) (p : Place) → is_word_address image at ≡ true → place_at sites at ≡ Some p →
+      HasStub image (setting_of patched levels input) (loaded_byte patched) limits at p
   pub start_is : starting_level levels patched.keyed_segment ≡ start
   pub start_is_level : start < levels
   pub few_levels : levels ≤ 8

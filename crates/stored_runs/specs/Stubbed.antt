@@ -27,11 +27,13 @@ IsTable levels word = (word < 2 ^ 32) × ((i : ℕ) → i < levels → four_bits
 -- counter.
 abbrev pub IsSafe : ℕ → (ℕ → ℕ) → Fragment → Type 0
 IsSafe levels limits (Switch word) = IsTable levels word
-IsSafe levels limits (Exit counter shift rows) = IsShadow counter × (shift < 32) × (length rows ≤ 16) × (limits counter / 2 ^ shift < length rows) × All (IsTable levels) rows
+IsSafe levels limits (Exit counter shift rows) = IsShadow counter × (shift < 32) × (length rows ≤ 16) ×
+    (limits counter / 2 ^ shift < length rows) × All (IsTable levels) rows
 IsSafe levels limits (Reset counter) = IsShadow counter
 IsSafe levels limits (Count counter) = IsShadow counter
 IsSafe levels limits (Lowest down) = Unit {0}
-IsSafe levels limits (Tally counter shift from) = IsShadow counter × (shift < 32) × (1 ≤ from) × (from < 2048) × (limits counter + 1 < 2 ^ 31)
+IsSafe levels limits (Tally counter shift from) = IsShadow counter × (shift < 32) × (1 ≤ from) × (from < 2048) ×
+    (limits counter + 1 < 2 ^ 31)
 
 -- a fragment that stores nothing at the port
 abbrev pub IsQuiet : Fragment → Type 0
@@ -58,12 +60,14 @@ pub record IsSafeWay (levels : ℕ) (limits : ℕ → ℕ) (w : Way) : Type 0 wh
 -- the ways are those of the branch or the jump that stands at the address
 abbrev pub IsOfImage : Image → ℕ → Place → Type 0
 IsOfImage image at (Forked op rs1 rs2 untaken taken) =
-    (offset : ℤ) × (instr_of (word_at (loaded_byte image) at) ≡ Some (instr.Branch op rs1 rs2 offset)) × (untaken.to ≡ plus at 4) × (taken.to ≡ moved_by at offset)
+    (offset : ℤ) × (instr_of (word_at (loaded_byte image) at) ≡ Some (instr.Branch op rs1 rs2 offset)) × (untaken.to ≡ plus at 4) ×
+    (taken.to ≡ moved_by at offset)
 IsOfImage image at (Straight way) =
     (offset : ℤ) × (instr_of (word_at (loaded_byte image) at) ≡ Some (instr.Jal 0 offset)) × (way.to ≡ moved_by at offset)
 
 abbrev pub AreSafeWays : ℕ → (ℕ → ℕ) → Place → Type 0
-AreSafeWays levels limits (Forked op rs1 rs2 untaken taken) = (rs1 < 32) × (rs2 < 32) × IsSafeWay levels limits untaken × IsSafeWay levels limits taken
+AreSafeWays levels limits (Forked op rs1 rs2 untaken taken) = (rs1 < 32) × (rs2 < 32) × IsSafeWay levels limits untaken ×
+    IsSafeWay levels limits taken
 AreSafeWays levels limits (Straight way) = IsSafeWay levels limits way
 
 pub record IsSafeSite (image : Image) (levels : ℕ) (limits : ℕ → ℕ) (site : Site) : Type 0 where
@@ -97,7 +101,8 @@ StaysInText image levels input n =
 -- and the shadow counters keep their limits
 abbrev pub KeepsLimits : Image → ℕ → (ℕ → ℕ) → List Site → ℕ → List ℕ → ℕ → Type 0
 KeepsLimits image levels limits sites start input n =
-    (m : ℕ) → m < n → (run_of image levels input m).standing ≡ GoesOn → (k : ℕ) → (shadow_after sites (shadow_first start) (run_of image levels input m).steps).counters k ≤ limits k
+    (m : ℕ) → m < n → (run_of image levels input m).standing ≡ GoesOn → (k : ℕ) →
+    (shadow_after sites (shadow_first start) (run_of image levels input m).steps).counters k ≤ limits k
 
 -- ---- what then is so of the stored image
 
@@ -112,4 +117,5 @@ pub record IsFollowed (image stored : Image) (levels : ℕ) (sites : List Site) 
   pub steps : (run_of stored levels input after).steps ≡ all_steps legs
   pub standing : (run_of stored levels input after).standing ≡ (run_of image levels input n).standing
   pub meets : Meets (layout_of stored) (run_of image levels input n).state (run_of stored levels input after).state
-  pub holds : Holds (shadow_after sites (shadow_first start) (run_of image levels input n).steps) (run_of stored levels input after).state.window
+  pub holds : Holds (shadow_after sites (shadow_first start) (run_of image levels input n).steps)
+      (run_of stored levels input after).state.window

@@ -1,4 +1,4 @@
--- What a list of fragments, a way and a stub do: the window behind them, and the steps.
+-- Scaffold: what a list of fragments, a way and a stub do: the window behind them, and the steps.
 use Rattle.std.specs.Prelude.{◌≡◌, ℕ, cond, ◌+◌, ◌*◌, ◌/◌, ◌%◌, ◌^◌, ◌<◌, ◌≤◌, true, List, [], ◌∷◌, ◌++◌, length, slice_index, slice_set, None}
 use Rattle.scale_base.specs.declared.stepping.Stepped.{Stepped}
 use Rattle.scale_base.specs.declared.stepping.Class.{Class}
@@ -35,7 +35,8 @@ window_behind bytes regs table (Count counter) w =
     slice_set (slice_set w 0 (reg regs t0)) counter ((slice_index w counter + 1) % 2 ^ 32)
 window_behind bytes regs table (Lowest down) w = slice_set w (cond down port 1) 0
 window_behind bytes regs table (Tally counter shift from) w =
-    slice_set (slice_set (slice_set w 0 (reg regs t0)) counter ((slice_index w counter + 1) % 2 ^ 32)) (cond (is_due shift from (slice_index w counter)) port 1) 0
+    slice_set (slice_set (slice_set w 0 (reg regs t0)) counter ((slice_index w counter + 1) % 2 ^ 32))
+    (cond (is_due shift from (slice_index w counter)) port 1) 0
 
 abbrev pub fragment_steps : (bytes : ℕ → ℕ) (table at : ℕ) → Fragment → List ℕ → List Stepped
 fragment_steps bytes table at (Switch word) w = along_storing 8 (four_bits word (slice_index w port)) at (switch_code word)
@@ -45,7 +46,8 @@ fragment_steps bytes table at (Reset counter) w = along at (reset_code counter)
 fragment_steps bytes table at (Count counter) w = along at (count_code counter)
 fragment_steps bytes table at (Lowest down) w = cond down (along_storing 0 0 at (lowest_code down)) (along at (lowest_code down))
 fragment_steps bytes table at (Tally counter shift from) w =
-    cond (is_due shift from (slice_index w counter)) (along_storing 8 0 at (tally_code counter shift from)) (along at (tally_code counter shift from))
+    cond (is_due shift from (slice_index w counter)) (along_storing 8 0 at (tally_code counter shift from))
+    (along at (tally_code counter shift from))
 
 -- what is asked of a fragment: its counter is one, its row is there, and what it stores is a level
 abbrev pub Fits : Setting → (bytes : ℕ → ℕ) (table at : ℕ) → Fragment → List ℕ → Type 0
@@ -56,7 +58,8 @@ Fits env bytes table at (Exit counter shift rows) w =
 Fits env bytes table at (Reset counter) w = IsCounter counter
 Fits env bytes table at (Count counter) w = IsCounter counter
 Fits env bytes table at (Lowest down) w = Unit {0}
-Fits env bytes table at (Tally counter shift from) w = IsCounter counter × (shift < 32) × (1 ≤ from) × (from < 2048) × (slice_index w counter + 1 < 2 ^ 31)
+Fits env bytes table at (Tally counter shift from) w = IsCounter counter × (shift < 32) × (1 ≤ from) × (from < 2048) ×
+    (slice_index w counter + 1 < 2 ^ 31)
 
 -- ---- the same of fragments one after another
 

@@ -1,4 +1,4 @@
--- The block of the stubs of marked instructions, or why there is none.
+-- Scaffold: the block of the stubs of marked instructions, or why there is none.
 use Rattle.std.specs.Prelude.{ℕ, List, Option, Some, None, Result, Ok, Err}
 use Rattle.scale_base.specs.declared.ranges.Patch.{Patch}
 use Rattle.scale_base.specs.declared.refusal.Refusal.{Refusal}

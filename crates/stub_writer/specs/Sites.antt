@@ -1,4 +1,4 @@
--- A marked instruction as a place with its ways.
+-- Scaffold: a marked instruction as a place with its ways.
 use Rattle.std.specs.Prelude.{◌≡◌, ℕ, ◌≤◌, ◌==◌, List, [], ◌∷◌, length, if◌then◌else◌}
 use Rattle.std.specs.List.{All}
 use Rattle.scale_base.specs.declared.instruction.Instr.{Instr}

@@ -138,7 +138,8 @@ fn push_ways(
     requires at { at ≤ 2 ^ 39 }
     requires table { table ≤ 2 ^ 39 }
     requires reach { stubs.fork_reaches at (stubs.way next untaken.now) (stubs.way target taken.now) ≡ true }
-    ensures { OnOk result (out.new.items ≡ out.old.items ++ stubs.code_bytes (stubs.ways_code at table (stubs.way next untaken.now) (stubs.way target taken.now))) }
+    ensures { OnOk result (out.new.items ≡ out.old.items ++ stubs.code_bytes (stubs.ways_code at table (stubs.way next untaken.now)
+        (stubs.way target taken.now))) }
 {
     let second = at + 4 + 4 * (codes_len(untaken) + 1);
     push_way(out, at + 4, table, untaken, next)?;
@@ -171,7 +172,8 @@ fn push_fork(
     requires at { at ≤ 2 ^ 39 }
     requires table { table ≤ 2 ^ 39 }
     requires reach { stubs.fork_reaches at (stubs.way next untaken.now) (stubs.way target taken.now) ≡ true }
-    ensures { OnOk result (out.new.items ≡ out.old.items ++ stubs.code_bytes (stubs.stub_code_of at table (Forked branch.0 branch.1 branch.2 (stubs.way next untaken.now) (stubs.way target taken.now)))) }
+    ensures { OnOk result (out.new.items ≡ out.old.items ++ stubs.code_bytes (stubs.stub_code_of at table
+        (Forked branch.0 branch.1 branch.2 (stubs.way next untaken.now) (stubs.way target taken.now)))) }
 {
     push_branch(out, branch.0, branch.1, branch.2, codes_len(untaken) + 1)?;
     push_ways(out, at, table, untaken, taken, next, target)?;

@@ -12,7 +12,7 @@ use stub_writer::{StubEdge, StubSite};
 
 /// The files of a program, each with at most the bytes that are loaded.
 #[derive(Clone, Copy)]
-pub struct Sources<'a> {
+pub struct Files<'a> {
     pub image: &'a [u8],
     pub machine: &'a [u8],
     pub loops: &'a [u8],
@@ -302,7 +302,7 @@ impl<'a> Places<'a> {
     pub fn acts(
         &self,
         alloc: Global,
-        files: &Sources<'_>,
+        files: &Files<'_>,
         set: &MarkSet,
     ) -> Result<Option<Acts>, NoMemory> {
         let proposal = self.proposal(alloc, set)?;
@@ -316,7 +316,7 @@ impl<'a> Places<'a> {
 /// The stubs of a proposal, unless it is refused.
 pub fn scaling_of(
     alloc: Global,
-    files: &Sources<'_>,
+    files: &Files<'_>,
     proposal: &Proposal,
 ) -> Result<Option<Scaling>, NoMemory> {
     match program_of(

@@ -2,7 +2,7 @@
 
 ghost use Rattle.std.specs.Prelude.{◌≤◌, length, IfOk};
 
-use crate::building::{Sources, are_dear, scaling_of};
+use crate::building::{Files, are_dear, scaling_of};
 use paced_images::{KeptMarks, Proposal, SwitchSite, useful_marks};
 use scale_base::{NoMemory, Stop};
 use std::alloc::Global;
@@ -33,7 +33,7 @@ fn few(mut sites: Vec<SwitchSite>) -> Vec<SwitchSite>
 /// The marks of a proposal that can lower a level; none where it is refused.
 fn useful(
     alloc: Global,
-    files: &Sources<'_>,
+    files: &Files<'_>,
     proposal: &Proposal,
 ) -> Result<Option<KeptMarks>, NoMemory> {
     match useful_marks(
@@ -55,7 +55,7 @@ fn useful(
 /// The proposal without the switches that can lower nothing; none where there are such again and again, or it is refused.
 fn thinned(
     alloc: Global,
-    files: &Sources<'_>,
+    files: &Files<'_>,
     proposal: Proposal,
 ) -> Result<Option<Proposal>, NoMemory> {
     let mut thinned = proposal;
@@ -74,7 +74,7 @@ fn thinned(
 /// Whether a proposal counts some loop, and its stubs add few cycles to so many worst ones.
 fn is_worth_it(
     alloc: Global,
-    files: &Sources<'_>,
+    files: &Files<'_>,
     worst: u64,
     proposal: &Proposal,
 ) -> Result<bool, NoMemory> {
@@ -90,7 +90,7 @@ fn is_worth_it(
 /// Appends a proposal with some switches that counts the loops that are noted so, if there are few and it may be worth it.
 fn offer(
     alloc: Global,
-    files: &Sources<'_>,
+    files: &Files<'_>,
     worst: u64,
     most: usize,
     sites: Vec<SwitchSite>,
@@ -117,7 +117,7 @@ fn first_sites(alloc: Global, proposals: &[Proposal]) -> Result<Vec<SwitchSite>,
 /// alone, and with them the switches of the first proposal.
 pub fn add_counted(
     alloc: Global,
-    files: &Sources<'_>,
+    files: &Files<'_>,
     worst: u64,
     most: usize,
     proposals: &mut Vec<Proposal>,

@@ -11,4 +11,5 @@ mod pricing;
 mod proposing;
 mod sets;
 
+pub use building::Files;
 pub use proposing::propose;

@@ -1,6 +1,6 @@
 //! What runs take with a set of marks, by what they do at its edges and in its loops.
 
-use crate::building::{Act, Acts, Places, Sources, are_dear};
+use crate::building::{Act, Acts, Files, Places, are_dear};
 use crate::marks::{change_energy, energy_at};
 use crate::sets::{MarkSet, Priced};
 use power_model::Power;
@@ -21,7 +21,7 @@ struct Event {
 #[derive(Drop)]
 pub struct Search<'a> {
     pub alloc: Global,
-    pub files: Sources<'a>,
+    pub files: Files<'a>,
     pub power: &'a Power,
     pub costs: StubCosts,
     pub places: Places<'a>,

@@ -2,23 +2,22 @@
 
 ghost use Rattle.std.specs.Prelude.{◌≡◌, ◌≤◌, length, IfOk};
 
-use crate::building::{Places, Sources};
+use crate::building::{Files, Places};
 use crate::candidates::{Known, MOST, loops_of};
 use crate::counted::add_counted;
 use crate::growing::best_sets;
 use crate::pricing::Search;
 use crate::sets::Priced;
-use answer_parts::check_unscaled;
 use code_graph::build_graph;
-use elf_view::read_image;
 use flow_graph::CodeGraph;
-use loop_file::{LoopNotes, read_loops};
+use loop_file::LoopNotes;
 use loop_forest::LoopTree;
 use loop_tree::build_loops;
-use machine_file::read_machine;
 use marked_images::starting_level;
 use paced_images::Proposal;
 use power_model::Power;
+use program_sources::Sources;
+use run_progress::Progress;
 use run_traces::{EdgeTrace, Numbers, RunMarks, Runs, StubCosts, WalkPlan, numbers_of};
 use scale_base::{NoMemory, Stop};
 use std::alloc::Global;
@@ -105,7 +104,7 @@ fn has_counted(notes: &LoopNotes) -> bool {
 /// What a program is, and how it is searched.
 #[derive(Clone, Copy)]
 struct Program<'a> {
-    files: Sources<'a>,
+    files: Files<'a>,
     power: &'a Power,
     graph: &'a CodeGraph,
     tree: &'a LoopTree,
@@ -116,7 +115,7 @@ struct Program<'a> {
 /// Up to so many proposals of candidates, by what the runs do there.
 fn searched(
     alloc: Global,
-    files: Sources<'_>,
+    files: Files<'_>,
     known: &Known<'_>,
     places: Places<'_>,
     runs: &[RunMarks],
@@ -140,16 +139,17 @@ fn searched(
 }
 
 /// Up to so many proposals for a program whose numbers are known, by some runs, in which no loop is counted that isn't tallied.
-fn search_program(
+fn search_program<P: Progress>(
     alloc: Global,
     program: &Program<'_>,
     runs: &Runs<'_>,
     most: usize,
+    progress: &mut P,
 ) -> Result<Vec<Proposal>, Stop> {
     let power = program.power;
     let numbers = program.numbers;
     let mut trace = EdgeTrace::new(alloc, program.graph, &power.costs)?;
-    let sums = runs.sums(alloc, numbers.edges.len(), &mut trace)?;
+    let sums = runs.sums(alloc, numbers.edges.len(), &mut trace, progress)?;
     let known = Known {
         power,
         numbers,
@@ -170,18 +170,20 @@ fn search_program(
         candidates: &candidates,
         plans: &plans,
     };
-    let marks = runs.marks(alloc, &places.watched(known.costs.jump), &mut trace)?;
+    let watched = places.watched(known.costs.jump);
+    let marks = runs.marks(alloc, &watched, &mut trace, progress)?;
     let files = program.files;
     Ok(searched(alloc, files, &known, places, &marks, tries, most)?)
 }
 
 /// The proposals for a program whose numbers are known, where some loop is noted as counted, or none. The runs take so many steps.
-fn propose_for(
+fn propose_for<P: Progress>(
     alloc: Global,
     program: &Program<'_>,
     runs: &Runs<'_>,
     noted: bool,
     steps: u64,
+    progress: &mut P,
 ) -> Result<Vec<Proposal>, Stop> {
     // Only runs tell what counting takes.
     let counts = noted && !runs.places.is_empty();
@@ -191,7 +193,7 @@ fn propose_for(
     } else {
         most.min(8)
     };
-    let mut proposals = search_program(alloc, program, runs, few)?;
+    let mut proposals = search_program(alloc, program, runs, few, progress)?;
     if counts {
         let worst = program.numbers.worst;
         add_counted(alloc, &program.files, worst, most, &mut proposals)?;
@@ -200,39 +202,45 @@ fn propose_for(
 }
 
 /// The proposals for files that nothing refuses.
-fn search_files(
+fn search_files<P: Progress>(
     alloc: Global,
-    files: Sources<'_>,
+    files: Files<'_>,
     inputs: &[Vec<u8>],
     cycles: &[Option<u64>],
+    progress: &mut P,
 ) -> Result<Vec<Proposal>, Stop> {
-    let power = read_machine(alloc, files.machine)?;
-    let view = read_image(alloc, files.image)?;
-    check_unscaled(view.keyed())?;
-    let notes = read_loops(alloc, files.loops, &view)?;
-    let graph = build_graph(alloc, &view)?;
-    let tree = build_loops(alloc, &graph, &notes)?;
-    let numbers = numbers_of(alloc, &graph, &tree, &power)?;
-    let start = starting_level(&power, numbers.worst)?;
+    let sources = Sources::read(alloc, files.image, files.machine, files.loops)?;
+    let power = &sources.power;
+    let graph = build_graph(alloc, &sources.view)?;
+    let tree = build_loops(alloc, &graph, &sources.notes)?;
+    let numbers = numbers_of(alloc, &graph, &tree, power)?;
+    let start = starting_level(power, numbers.worst)?;
     let plan = WalkPlan::new(alloc, &graph, &tree, &numbers)?;
-    let steps = steps_of(&power, cycles);
+    let steps = steps_of(power, cycles);
     let places = each_of(alloc, cycles, (steps / TRACED).saturating_add(1))?;
     let program = Program {
         files,
-        power: &power,
+        power,
         graph: &graph,
         tree: &tree,
         numbers: &numbers,
         start,
     };
     let runs = Runs {
-        view: &view,
-        power: &power,
+        view: &sources.view,
+        power,
         plan: &plan,
         inputs,
         places: &places,
     };
-    propose_for(alloc, &program, &runs, has_counted(&notes), steps)
+    propose_for(
+        alloc,
+        &program,
+        &runs,
+        has_counted(&sources.notes),
+        steps,
+        progress,
+    )
 }
 
 /// Up to 10 proposals that may save energy, the most promising one first: at most 8 of edges with a switch and loops that are tallied, as `pace` takes
@@ -244,29 +252,19 @@ fn search_files(
 /// With each input comes how many cycles the run of the original on it takes, where the input counts.
 /// The choice is by the runs of the original on the inputs that count, on some of them where these are long, and by some random walks of its graph that
 /// keep the loop file: a third as much in all, and alone where no input counts. It is the same for the same files. Nothing is promised of it: what it
-/// proposes has to be made and run by others. The files have at most the bytes that the program loads: 4,194,304 of an image, 1,048,576 of each other
-/// file. One error: memory ran out.
-pub fn propose(
+/// proposes has to be made and run by others. How far the runs are is told. One error: memory ran out.
+pub fn propose<P: Progress>(
     alloc: Global,
-    image: &[u8],
-    machine: &[u8],
-    loops: &[u8],
+    files: &Files<'_>,
     inputs: &[Vec<u8>],
     cycles: &[Option<u64>],
+    progress: &mut P,
 ) -> Result<Vec<Proposal>, NoMemory>
-    requires image { length image.now ≤ 4194304 }
-    requires machine { length machine.now ≤ 1048576 }
-    requires loops { length loops.now ≤ 1048576 }
     requires few { length inputs.now ≤ 64 }
     requires cycles { length cycles.now ≡ length inputs.now }
     ensures { IfOk result (λ proposals. length proposals.items ≤ 10) }
 {
-    let files = Sources {
-        image,
-        machine,
-        loops,
-    };
-    match search_files(alloc, files, inputs, cycles) {
+    match search_files(alloc, *files, inputs, cycles, progress) {
         Ok(mut proposals) => {
             proposals.truncate(10);
             Ok(proposals)

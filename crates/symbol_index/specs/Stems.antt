@@ -1,4 +1,4 @@
--- Stems of names, and the defined symbols of a table by their stems.
+-- Scaffold: stems of names, and the defined symbols of a table by their stems.
 use Rattle.std.specs.Prelude.{◌≡◌, ℕ, ◌+◌, ◌-◌, ◌*◌, ◌/◌, ◌%◌, ◌^◌, ◌≤◌, ◌==◌, Bool, bit_xor, if◌then◌else◌, List, [], ◌∷◌, length, map, filter, take, drop}
 use Rattle.std.specs.List.{range_with_len}
 use Rattle.std.specs.List.Sorted.{IsNonDecreasingBy}

@@ -33,7 +33,8 @@ impl<'a> Model for SortedSymbols<'a> {
 /// The value of the first of these symbols that has the name.
 fn value_among(name: &[u8], table: &SymbolTable<'_>, keys: &[SymbolKey]) -> Option<u32>
     requires { All (IsInTable (length table.now.entries.now)) keys.now }
-    ensures { result ≡ option_map (λ key. list_word_at table.now.entries.now (16 * key.number + 4)) (find (λ key. is_named name.now table.now.strings.now table.now.entries.now key.number) keys.now) }
+    ensures { result ≡ option_map (λ key. list_word_at table.now.entries.now (16 * key.number + 4))
+        (find (λ key. is_named name.now table.now.strings.now table.now.entries.now key.number) keys.now) }
 {
     for key in keys {
         if table.is_named(name, key.number) {

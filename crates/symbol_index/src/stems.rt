@@ -85,7 +85,8 @@ fn key_of(symbols: &SymbolTable<'_>, number: usize) -> SymbolKey
 }
 
 fn list_keys(alloc: Global, symbols: &SymbolTable<'_>) -> Result<Vec<SymbolKey>, NoMemory>
-    ensures { IfOk result (λ keys. keys.items ≡ stems.keys_of symbols.now.strings.now symbols.now.entries.now (length symbols.now.entries.now / 16 - 1)) }
+    ensures { IfOk result (λ keys. keys.items ≡ stems.keys_of symbols.now.strings.now symbols.now.entries.now
+        (length symbols.now.entries.now / 16 - 1)) }
 {
     let mut keys = Vec::new(alloc);
     for number in 1..symbols.entries.len() / 16 {

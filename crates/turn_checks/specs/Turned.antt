@@ -1,4 +1,4 @@
--- A table of turns as what `turn_laws` calls a certificate: by address what stands beside it in the list of nodes, by register what stands in
+-- Scaffold: a table of turns as what `turn_laws` calls a certificate: by address what stands beside it in the list of nodes, by register what stands in
 -- the row.
 use Rattle.std.specs.Prelude.{◌≡◌, ◌≢◌, ℕ, ◌+◌, ◌^◌, ◌<◌, ◌⊎◌, Bool, true, false, List, [], length, slice_get, map, option_map, Some, None, Vec}
 use Rattle.std.specs.declared.alloc.Global.{Global}
@@ -120,8 +120,10 @@ pub record IsCalledSo (c : TurnCertificate) (header a b : ℕ) : Type 0 where
 
 -- of the instruction at the source of an edge, where that is in the body
 pub record IsSound (c : TurnCase) (g : Graph) (a : ℕ) (i : Instr) (e : ℕ) : Type 0 where
-  pub step : (b : ℕ) → g.target e ≡ Some b → g.callee e ≡ None → IsStepSo (values_in c.claim.now) (stacks_in c.claim.now) (cert c) c.note.now.header a i b
-  pub back : (f b : ℕ) → g.callee e ≡ Some f → g.target e ≡ Some b → IsBackSo (text_in c.claim.now) (values_in c.claim.now) (stacks_in c.claim.now) (cert c) c.note.now.header a (g.entry f) b
+  pub step : (b : ℕ) → g.target e ≡ Some b → g.callee e ≡ None → IsStepSo (values_in c.claim.now) (stacks_in c.claim.now) (cert c)
+      c.note.now.header a i b
+  pub back : (f b : ℕ) → g.callee e ≡ Some f → g.target e ≡ Some b → IsBackSo (text_in c.claim.now) (values_in c.claim.now)
+      (stacks_in c.claim.now) (cert c) c.note.now.header a (g.entry f) b
 
 -- of an edge to whose source a run may come
 pub record IsLiveSo (c : TurnCase) (g : Graph) (a e : ℕ) : Type 0 where
@@ -145,11 +147,13 @@ pub record IsHeaderSo (v : Values) (w : Stacks) (c : TurnCertificate) (h : ℕ) 
 
 -- of the start of a run
 abbrev pub IsEntrySo : TurnCase → Type 0
-IsEntrySo c = (k : ℕ) × (slice_get c.claim.now.graph.now.code.nodes k ≡ Some c.claim.now.view.now.entry) × ((cert c).body (address c.claim.now k) ≡ true → k ≡ c.header)
+IsEntrySo c = (k : ℕ) × (slice_get c.claim.now.graph.now.code.nodes k ≡ Some c.claim.now.view.now.entry) ×
+    ((cert c).body (address c.claim.now k) ≡ true → k ≡ c.header)
 
 abbrev pub AreEdgesTurned : TurnCase → Type 0
 AreEdgesTurned c = (e : ℕ) → e < length c.claim.now.graph.now.code.edges → IsEdgeTurned c (graph c.claim.now.graph.now) e
 
 -- a multiple of the numbers of an interval is at least so much, and so much that with the width it is a word
 abbrev pub IsMoved : (factor low more least width : ℕ) → Type 0
-IsMoved factor low more least width = (most : ℕ) × Covers (Some (arc least most)) (scaled factor (Some (arc low more))) × (least + most + width < 2 ^ 32)
+IsMoved factor low more least width = (most : ℕ) × Covers (Some (arc least most)) (scaled factor (Some (arc low more))) ×
+    (least + most + width < 2 ^ 32)

@@ -20,7 +20,8 @@ pub fn is_row_back(case: &TurnCase<'_>, i: Instr, k: usize, h: usize, r: u8, b: 
     requires entry { h < length case.now.claim.now.graph.now.code.nodes }
     requires register { r < 32 }
     requires instruction { text.instr_at (text_in case.now.claim.now) (at_of case.now k) ≡ Some i }
-    ensures { result ≡ true → relating.IsRowBack (text_in case.now.claim.now) (values_in case.now.claim.now) (stacks_in case.now.claim.now) (cert case.now) (at_of case.now k) (at_of case.now h) r (relation_view b) }
+    ensures { result ≡ true → relating.IsRowBack (text_in case.now.claim.now) (values_in case.now.claim.now) (stacks_in case.now.claim.now)
+        (cert case.now) (at_of case.now k) (at_of case.now h) r (relation_view b) }
 {
     if is_weaker(b, Relation::Unknown) {
         return true;
@@ -33,7 +34,8 @@ fn is_word_back(case: &TurnCase<'_>, k: usize, h: usize, word: u32, b: Relation)
     requires case { IsTurnCase case.now }
     requires from { k < length case.now.claim.now.graph.now.code.nodes }
     requires entry { h < length case.now.claim.now.graph.now.code.nodes }
-    ensures { result ≡ true → relating.IsOwnBack (values_in case.now.claim.now) (stacks_in case.now.claim.now) (cert case.now) (at_of case.now k) (at_of case.now h) (in_word word) (relation_view b) }
+    ensures { result ≡ true → relating.IsOwnBack (values_in case.now.claim.now) (stacks_in case.now.claim.now) (cert case.now)
+        (at_of case.now k) (at_of case.now h) (in_word word) (relation_view b) }
 {
     if is_weaker(b, Relation::Unknown) {
         return true;
@@ -46,7 +48,8 @@ pub fn is_own_back(case: &TurnCase<'_>, k: usize, h: usize, b: Relation) -> bool
     requires case { IsTurnCase case.now }
     requires from { k < length case.now.claim.now.graph.now.code.nodes }
     requires entry { h < length case.now.claim.now.graph.now.code.nodes }
-    ensures { result ≡ true → relating.IsOwnBack (values_in case.now.claim.now) (stacks_in case.now.claim.now) (cert case.now) (at_of case.now k) (at_of case.now h) (place_view case.now.table.now.place) (relation_view b) }
+    ensures { result ≡ true → relating.IsOwnBack (values_in case.now.claim.now) (stacks_in case.now.claim.now) (cert case.now)
+        (at_of case.now k) (at_of case.now h) (place_view case.now.table.now.place) (relation_view b) }
 {
     match case.table.place {
         TurnPlace::Register(_) => true,

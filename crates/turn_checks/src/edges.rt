@@ -25,7 +25,8 @@ fn are_rows_over(case: &TurnCase<'_>, i: Instr, k: usize, n: usize) -> bool
     requires case { IsTurnCase case.now }
     requires from { k < length case.now.claim.now.graph.now.code.nodes }
     requires to { n < length case.now.claim.now.graph.now.code.nodes }
-    ensures { result ≡ true → (r : ℕ) → IsRegister r → relating.IsRowOver (values_in case.now.claim.now) (stacks_in case.now.claim.now) (cert case.now) (at_of case.now k) i r ((cert case.now).row (at_of case.now n) r) }
+    ensures { result ≡ true → (r : ℕ) → IsRegister r → relating.IsRowOver (values_in case.now.claim.now) (stacks_in case.now.claim.now)
+        (cert case.now) (at_of case.now k) i r ((cert case.now).row (at_of case.now n) r) }
 {
     for r in 1..32u8 {
         if !is_row_over(
@@ -47,7 +48,8 @@ fn is_own_over(case: &TurnCase<'_>, i: Instr, k: usize, n: usize) -> bool
     requires case { IsTurnCase case.now }
     requires from { k < length case.now.claim.now.graph.now.code.nodes }
     requires to { n < length case.now.claim.now.graph.now.code.nodes }
-    ensures { result ≡ true → relating.IsOwnOver (values_in case.now.claim.now) (stacks_in case.now.claim.now) (cert case.now) (at_of case.now k) i (place_view case.now.table.now.place) ((cert case.now).own (at_of case.now n)) }
+    ensures { result ≡ true → relating.IsOwnOver (values_in case.now.claim.now) (stacks_in case.now.claim.now) (cert case.now)
+        (at_of case.now k) i (place_view case.now.table.now.place) ((cert case.now).own (at_of case.now n)) }
 {
     match case.table.place {
         TurnPlace::Register(_) => true,
@@ -69,7 +71,8 @@ fn are_over(case: &TurnCase<'_>, i: Instr, k: usize, n: usize) -> bool
     requires case { IsTurnCase case.now }
     requires from { k < length case.now.claim.now.graph.now.code.nodes }
     requires to { n < length case.now.claim.now.graph.now.code.nodes }
-    ensures { result ≡ true → AreOver (values_in case.now.claim.now) (stacks_in case.now.claim.now) (cert case.now) (at_of case.now k) i (at_of case.now n) }
+    ensures { result ≡ true → AreOver (values_in case.now.claim.now) (stacks_in case.now.claim.now) (cert case.now) (at_of case.now k) i
+        (at_of case.now n) }
 {
     if !are_rows_over(case, i, k, n) {
         return false;
@@ -85,7 +88,8 @@ fn is_step_so(case: &TurnCase<'_>, i: Instr, k: usize, n: usize) -> bool
     requires case { IsTurnCase case.now }
     requires from { k < length case.now.claim.now.graph.now.code.nodes }
     requires to { n < length case.now.claim.now.graph.now.code.nodes }
-    ensures { result ≡ true → IsStepSo (values_in case.now.claim.now) (stacks_in case.now.claim.now) (cert case.now) case.now.note.now.header (at_of case.now k) i (at_of case.now n) }
+    ensures { result ≡ true → IsStepSo (values_in case.now.claim.now) (stacks_in case.now.claim.now) (cert case.now)
+        case.now.note.now.header (at_of case.now k) i (at_of case.now n) }
 {
     if n == case.header {
         return is_turn_over(case, i, k);
@@ -100,7 +104,8 @@ fn are_rows_back(case: &TurnCase<'_>, i: Instr, k: usize, h: usize, n: usize) ->
     requires entry { h < length case.now.claim.now.graph.now.code.nodes }
     requires to { n < length case.now.claim.now.graph.now.code.nodes }
     requires instruction { text.instr_at (text_in case.now.claim.now) (at_of case.now k) ≡ Some i }
-    ensures { result ≡ true → (r : ℕ) → IsRegister r → relating.IsRowBack (text_in case.now.claim.now) (values_in case.now.claim.now) (stacks_in case.now.claim.now) (cert case.now) (at_of case.now k) (at_of case.now h) r ((cert case.now).row (at_of case.now n) r) }
+    ensures { result ≡ true → (r : ℕ) → IsRegister r → relating.IsRowBack (text_in case.now.claim.now) (values_in case.now.claim.now)
+        (stacks_in case.now.claim.now) (cert case.now) (at_of case.now k) (at_of case.now h) r ((cert case.now).row (at_of case.now n) r) }
 {
     for r in 1..32u8 {
         if !is_row_back(case, i, k, h, r, row_at(case.claim, case.table, n, r)) {
@@ -117,7 +122,8 @@ fn are_back(case: &TurnCase<'_>, i: Instr, k: usize, h: usize, n: usize) -> bool
     requires entry { h < length case.now.claim.now.graph.now.code.nodes }
     requires to { n < length case.now.claim.now.graph.now.code.nodes }
     requires instruction { text.instr_at (text_in case.now.claim.now) (at_of case.now k) ≡ Some i }
-    ensures { result ≡ true → AreBack (text_in case.now.claim.now) (values_in case.now.claim.now) (stacks_in case.now.claim.now) (cert case.now) (at_of case.now k) (at_of case.now h) (at_of case.now n) }
+    ensures { result ≡ true → AreBack (text_in case.now.claim.now) (values_in case.now.claim.now) (stacks_in case.now.claim.now)
+        (cert case.now) (at_of case.now k) (at_of case.now h) (at_of case.now n) }
 {
     if !are_rows_back(case, i, k, h, n) {
         return false;
@@ -135,7 +141,8 @@ fn is_back_so(case: &TurnCase<'_>, i: Instr, k: usize, h: usize, n: usize) -> bo
     requires entry { h < length case.now.claim.now.graph.now.code.nodes }
     requires to { n < length case.now.claim.now.graph.now.code.nodes }
     requires instruction { text.instr_at (text_in case.now.claim.now) (at_of case.now k) ≡ Some i }
-    ensures { result ≡ true → IsBackSo (text_in case.now.claim.now) (values_in case.now.claim.now) (stacks_in case.now.claim.now) (cert case.now) case.now.note.now.header (at_of case.now k) (at_of case.now h) (at_of case.now n) }
+    ensures { result ≡ true → IsBackSo (text_in case.now.claim.now) (values_in case.now.claim.now) (stacks_in case.now.claim.now)
+        (cert case.now) case.now.note.now.header (at_of case.now k) (at_of case.now h) (at_of case.now n) }
 {
     if n == case.header {
         return is_turn_back(case, i, k, h);
@@ -148,7 +155,8 @@ fn is_led_so(case: &TurnCase<'_>, k: usize, n: usize) -> bool
     requires case { IsTurnCase case.now }
     requires from { k < length case.now.claim.now.graph.now.code.nodes }
     requires to { n < length case.now.claim.now.graph.now.code.nodes }
-    ensures { result ≡ true → IsLedSo (cert case.now) case.now.note.now.header (λ v. extent.in_extent case.now.note.now v) (at_of case.now k) (at_of case.now n) }
+    ensures { result ≡ true → IsLedSo (cert case.now) case.now.note.now.header (λ v. extent.in_extent case.now.note.now v)
+        (at_of case.now k) (at_of case.now n) }
 {
     if is_body(case.claim, case.table, k) {
         return true;
@@ -187,7 +195,8 @@ fn is_quiet_along(case: &TurnCase<'_>, k: usize, e: usize) -> bool
     requires case { IsTurnCase case.now }
     requires node { k < length case.now.claim.now.graph.now.code.nodes }
     requires edge { e < length case.now.claim.now.graph.now.code.edges }
-    ensures { result ≡ true → (b : ℕ) → (graph case.now.claim.now.graph.now).target e ≡ Some b → (cert case.now).quiet (at_of case.now k) ≡ true → (cert case.now).quiet b ≡ true }
+    ensures { result ≡ true → (b : ℕ) → (graph case.now.claim.now.graph.now).target e ≡ Some b →
+        (cert case.now).quiet (at_of case.now k) ≡ true → (cert case.now).quiet b ≡ true }
 {
     match case.claim.graph.target(e) {
         Some(n) => is_quiet_on(case, k, n),
@@ -200,7 +209,8 @@ fn is_quiet_called(case: &TurnCase<'_>, k: usize, e: usize) -> bool
     requires case { IsTurnCase case.now }
     requires node { k < length case.now.claim.now.graph.now.code.nodes }
     requires edge { e < length case.now.claim.now.graph.now.code.edges }
-    ensures { result ≡ true → (f : ℕ) → (graph case.now.claim.now.graph.now).callee e ≡ Some f → (cert case.now).quiet (at_of case.now k) ≡ true → (cert case.now).quiet ((graph case.now.claim.now.graph.now).entry f) ≡ true }
+    ensures { result ≡ true → (f : ℕ) → (graph case.now.claim.now.graph.now).callee e ≡ Some f →
+        (cert case.now).quiet (at_of case.now k) ≡ true → (cert case.now).quiet ((graph case.now.claim.now.graph.now).entry f) ≡ true }
 {
     match case.claim.graph.callee(e) {
         Some(f) => is_quiet_on(case, k, case.claim.graph.entry_node(f)),
@@ -213,7 +223,8 @@ fn leads_so(case: &TurnCase<'_>, k: usize, e: usize) -> bool
     requires case { IsTurnCase case.now }
     requires node { k < length case.now.claim.now.graph.now.code.nodes }
     requires edge { e < length case.now.claim.now.graph.now.code.edges }
-    ensures { result ≡ true → (b : ℕ) → (graph case.now.claim.now.graph.now).target e ≡ Some b → IsLedSo (cert case.now) case.now.note.now.header (λ v. extent.in_extent case.now.note.now v) (at_of case.now k) b }
+    ensures { result ≡ true → (b : ℕ) → (graph case.now.claim.now.graph.now).target e ≡ Some b →
+        IsLedSo (cert case.now) case.now.note.now.header (λ v. extent.in_extent case.now.note.now v) (at_of case.now k) b }
 {
     match case.claim.graph.target(e) {
         Some(n) => is_led_so(case, k, n),
@@ -226,7 +237,8 @@ fn calls_so(case: &TurnCase<'_>, k: usize, e: usize) -> bool
     requires case { IsTurnCase case.now }
     requires node { k < length case.now.claim.now.graph.now.code.nodes }
     requires edge { e < length case.now.claim.now.graph.now.code.edges }
-    ensures { result ≡ true → (f : ℕ) → (graph case.now.claim.now.graph.now).callee e ≡ Some f → IsCalledSo (cert case.now) case.now.note.now.header (at_of case.now k) ((graph case.now.claim.now.graph.now).entry f) }
+    ensures { result ≡ true → (f : ℕ) → (graph case.now.claim.now.graph.now).callee e ≡ Some f →
+        IsCalledSo (cert case.now) case.now.note.now.header (at_of case.now k) ((graph case.now.claim.now.graph.now).entry f) }
 {
     match case.claim.graph.callee(e) {
         Some(f) => is_called_so(case, k, case.claim.graph.entry_node(f)),
@@ -282,7 +294,9 @@ fn is_sound_or_outside(case: &TurnCase<'_>, k: usize, e: usize) -> bool
     requires case { IsTurnCase case.now }
     requires node { k < length case.now.claim.now.graph.now.code.nodes }
     requires edge { e < length case.now.claim.now.graph.now.code.edges }
-    ensures { result ≡ true → (cert case.now).body (at_of case.now k) ≡ true → (i : Instr) × (text.instr_at (text_in case.now.claim.now) (at_of case.now k) ≡ Some i) × IsSound case.now (graph case.now.claim.now.graph.now) (at_of case.now k) i e }
+    ensures { result ≡ true → (cert case.now).body (at_of case.now k) ≡ true → (i : Instr) ×
+        (text.instr_at (text_in case.now.claim.now) (at_of case.now k) ≡ Some i) ×
+        IsSound case.now (graph case.now.claim.now.graph.now) (at_of case.now k) i e }
 {
     if is_body(case.claim, case.table, k) {
         match instruction(case.claim, k) {

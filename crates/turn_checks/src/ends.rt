@@ -30,7 +30,8 @@ fn is_moved(factor: u32, low: u32, more: u32, least: u32, width: u32) -> bool
 
 // Whether the relation at the end of each turn is one of the table's kind.
 fn is_turned(table: &TurnTable) -> bool
-    ensures { result ≡ true → (nodes : List ℕ) → relating.IsTurned (certificate_of nodes table.now) (kind_view table.now.kind) (relation_view table.now.end) }
+    ensures { result ≡ true → (nodes : List ℕ) → relating.IsTurned (certificate_of nodes table.now) (kind_view table.now.kind)
+        (relation_view table.now.end) }
 {
     match (table.kind, table.end) {
         (TurnKind::Moves(factor, _), Relation::Ahead(low, more)) => {
@@ -46,7 +47,8 @@ fn is_turned(table: &TurnTable) -> bool
 fn is_place_over(case: &TurnCase<'_>, i: Instr, k: usize) -> bool
     requires case { IsTurnCase case.now }
     requires from { k < length case.now.claim.now.graph.now.code.nodes }
-    ensures { result ≡ true → relating.IsPlaceOver (values_in case.now.claim.now) (stacks_in case.now.claim.now) (cert case.now) (at_of case.now k) i (place_view case.now.table.now.place) (relation_view case.now.table.now.end) }
+    ensures { result ≡ true → relating.IsPlaceOver (values_in case.now.claim.now) (stacks_in case.now.claim.now) (cert case.now)
+        (at_of case.now k) i (place_view case.now.table.now.place) (relation_view case.now.table.now.end) }
 {
     let end = case.table.end;
     match case.table.place {
@@ -72,7 +74,8 @@ fn is_halving(kind: TurnKind) -> bool
 pub fn is_turn_over(case: &TurnCase<'_>, i: Instr, k: usize) -> bool
     requires case { IsTurnCase case.now }
     requires from { k < length case.now.claim.now.graph.now.code.nodes }
-    ensures { result ≡ true → relating.IsTurnOver (values_in case.now.claim.now) (stacks_in case.now.claim.now) (cert case.now) (at_of case.now k) i case.now.note.now.header }
+    ensures { result ≡ true → relating.IsTurnOver (values_in case.now.claim.now) (stacks_in case.now.claim.now) (cert case.now)
+        (at_of case.now k) i case.now.note.now.header }
 {
     if !is_turned(case.table) {
         return false;
@@ -89,7 +92,9 @@ fn is_place_back(case: &TurnCase<'_>, i: Instr, k: usize, h: usize) -> bool
     requires from { k < length case.now.claim.now.graph.now.code.nodes }
     requires entry { h < length case.now.claim.now.graph.now.code.nodes }
     requires instruction { text.instr_at (text_in case.now.claim.now) (at_of case.now k) ≡ Some i }
-    ensures { result ≡ true → relating.IsPlaceBack (text_in case.now.claim.now) (values_in case.now.claim.now) (stacks_in case.now.claim.now) (cert case.now) (at_of case.now k) (at_of case.now h) (place_view case.now.table.now.place) (relation_view case.now.table.now.end) }
+    ensures { result ≡ true → relating.IsPlaceBack (text_in case.now.claim.now) (values_in case.now.claim.now)
+        (stacks_in case.now.claim.now) (cert case.now) (at_of case.now k) (at_of case.now h) (place_view case.now.table.now.place)
+        (relation_view case.now.table.now.end) }
 {
     match case.table.place {
         TurnPlace::Register(r) => {
@@ -105,7 +110,8 @@ pub fn is_turn_back(case: &TurnCase<'_>, i: Instr, k: usize, h: usize) -> bool
     requires from { k < length case.now.claim.now.graph.now.code.nodes }
     requires entry { h < length case.now.claim.now.graph.now.code.nodes }
     requires instruction { text.instr_at (text_in case.now.claim.now) (at_of case.now k) ≡ Some i }
-    ensures { result ≡ true → relating.IsTurnBack (text_in case.now.claim.now) (values_in case.now.claim.now) (stacks_in case.now.claim.now) (cert case.now) (at_of case.now k) (at_of case.now h) }
+    ensures { result ≡ true → relating.IsTurnBack (text_in case.now.claim.now) (values_in case.now.claim.now)
+        (stacks_in case.now.claim.now) (cert case.now) (at_of case.now k) (at_of case.now h) }
 {
     if !is_turned(case.table) {
         return false;

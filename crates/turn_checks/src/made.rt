@@ -28,7 +28,8 @@ fn is_unknown(b: Relation) -> bool
 fn are_words(claim: &StackClaim<'_>, k: usize, rs1: u8, rs2: u8) -> bool
     requires claim { IsStackClaim claim.now }
     requires node { k < length claim.now.graph.now.code.nodes }
-    ensures { result ≡ (is_some (values.held ((values_in claim.now).at (address claim.now k)) rs1) && is_some (values.held ((values_in claim.now).at (address claim.now k)) rs2)) }
+    ensures { result ≡ (is_some (values.held ((values_in claim.now).at (address claim.now k)) rs1) && is_some
+        (values.held ((values_in claim.now).at (address claim.now k)) rs2)) }
 {
     held_at(claim, k, rs1).is_some() && held_at(claim, k, rs2).is_some()
 }
@@ -44,7 +45,8 @@ fn is_made_by_number(
     requires claim { IsStackClaim claim.now }
     requires node { k < length claim.now.graph.now.code.nodes }
     requires sized { AreTurns claim.now.graph.now.code.nodes table.now }
-    ensures { result ≡ true → relating.IsWeaker (relation_view b) (relating.made i (relating.row_of (certificate_in claim.now table.now) (address claim.now k)) ((values_in claim.now).at (address claim.now k))) }
+    ensures { result ≡ true → relating.IsWeaker (relation_view b) (relating.made i
+        (relating.row_of (certificate_in claim.now table.now) (address claim.now k)) ((values_in claim.now).at (address claim.now k))) }
 {
     match i {
         Instr::Imm {
@@ -101,7 +103,8 @@ fn is_made_by_register(
     requires claim { IsStackClaim claim.now }
     requires node { k < length claim.now.graph.now.code.nodes }
     requires sized { AreTurns claim.now.graph.now.code.nodes table.now }
-    ensures { result ≡ true → relating.IsWeaker (relation_view b) (relating.made i (relating.row_of (certificate_in claim.now table.now) (address claim.now k)) ((values_in claim.now).at (address claim.now k))) }
+    ensures { result ≡ true → relating.IsWeaker (relation_view b) (relating.made i
+        (relating.row_of (certificate_in claim.now table.now) (address claim.now k)) ((values_in claim.now).at (address claim.now k))) }
 {
     match i {
         Instr::Reg {
@@ -158,7 +161,8 @@ fn is_made_too(claim: &StackClaim<'_>, table: &TurnTable, i: Instr, k: usize, b:
     requires claim { IsStackClaim claim.now }
     requires node { k < length claim.now.graph.now.code.nodes }
     requires sized { AreTurns claim.now.graph.now.code.nodes table.now }
-    ensures { result ≡ true → relating.IsWeaker (relation_view b) (relating.made_too i (relating.row_of (certificate_in claim.now table.now) (address claim.now k)) ((values_in claim.now).at (address claim.now k))) }
+    ensures { result ≡ true → relating.IsWeaker (relation_view b) (relating.made_too i
+        (relating.row_of (certificate_in claim.now table.now) (address claim.now k)) ((values_in claim.now).at (address claim.now k))) }
 {
     match i {
         Instr::Reg {
@@ -194,7 +198,8 @@ fn is_made_over(
     requires claim { IsStackClaim claim.now }
     requires node { k < length claim.now.graph.now.code.nodes }
     requires sized { AreTurns claim.now.graph.now.code.nodes table.now }
-    ensures { result ≡ true → relating.IsMadeOver (values_in claim.now) (certificate_in claim.now table.now) (address claim.now k) i r (relation_view b) }
+    ensures { result ≡ true → relating.IsMadeOver (values_in claim.now) (certificate_in claim.now table.now) (address claim.now k) i r
+        (relation_view b) }
 {
     if keeps(r, i) {
         return false;
@@ -217,7 +222,8 @@ fn is_loaded_as(
     requires claim { IsStackClaim claim.now }
     requires node { k < length claim.now.graph.now.code.nodes }
     requires sized { AreTurns claim.now.graph.now.code.nodes table.now }
-    ensures { result ≡ true → stacks.IsLoadedTo (stacks_in claim.now) (address claim.now k) i word r × relating.IsWeaker (relation_view b) ((certificate_in claim.now table.now).own (address claim.now k)) }
+    ensures { result ≡ true → stacks.IsLoadedTo (stacks_in claim.now) (address claim.now k) i word r ×
+        relating.IsWeaker (relation_view b) ((certificate_in claim.now table.now).own (address claim.now k)) }
 {
     match loaded_to(claim, i, k) {
         Some((number, register)) => {
@@ -239,7 +245,8 @@ fn is_loaded_own(
     requires claim { IsStackClaim claim.now }
     requires node { k < length claim.now.graph.now.code.nodes }
     requires sized { AreTurns claim.now.graph.now.code.nodes table.now }
-    ensures { result ≡ true → relating.IsLoadedOwn (stacks_in claim.now) (certificate_in claim.now table.now) (address claim.now k) i r (relation_view b) }
+    ensures { result ≡ true → relating.IsLoadedOwn (stacks_in claim.now) (certificate_in claim.now table.now) (address claim.now k) i r
+        (relation_view b) }
 {
     match table.place {
         TurnPlace::Word(word) => is_loaded_as(claim, table, i, k, word, r, b),
@@ -259,7 +266,8 @@ pub fn is_row_over(
     requires claim { IsStackClaim claim.now }
     requires node { k < length claim.now.graph.now.code.nodes }
     requires sized { AreTurns claim.now.graph.now.code.nodes table.now }
-    ensures { result ≡ true → relating.IsRowOver (values_in claim.now) (stacks_in claim.now) (certificate_in claim.now table.now) (address claim.now k) i r (relation_view b) }
+    ensures { result ≡ true → relating.IsRowOver (values_in claim.now) (stacks_in claim.now) (certificate_in claim.now table.now)
+        (address claim.now k) i r (relation_view b) }
 {
     if is_unknown(b) {
         return true;
@@ -282,7 +290,8 @@ fn is_stored_own(
     requires claim { IsStackClaim claim.now }
     requires node { k < length claim.now.graph.now.code.nodes }
     requires sized { AreTurns claim.now.graph.now.code.nodes table.now }
-    ensures { result ≡ true → relating.IsWordOver (values_in claim.now) (stacks_in claim.now) (certificate_in claim.now table.now) (address claim.now k) i word (relation_view b) }
+    ensures { result ≡ true → relating.IsWordOver (values_in claim.now) (stacks_in claim.now) (certificate_in claim.now table.now)
+        (address claim.now k) i word (relation_view b) }
 {
     match stored_from(claim, i, k) {
         Some((number, register)) => {
@@ -304,7 +313,8 @@ pub fn is_word_over(
     requires claim { IsStackClaim claim.now }
     requires node { k < length claim.now.graph.now.code.nodes }
     requires sized { AreTurns claim.now.graph.now.code.nodes table.now }
-    ensures { result ≡ true → relating.IsWordOver (values_in claim.now) (stacks_in claim.now) (certificate_in claim.now table.now) (address claim.now k) i word (relation_view b) }
+    ensures { result ≡ true → relating.IsWordOver (values_in claim.now) (stacks_in claim.now) (certificate_in claim.now table.now)
+        (address claim.now k) i word (relation_view b) }
 {
     if is_weaker(b, own_at(claim, table, k)) && is_missed(claim, i, k, word) {
         return true;

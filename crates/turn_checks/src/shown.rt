@@ -88,7 +88,9 @@ fn place_arc(claim: &StackClaim<'_>, place: TurnPlace, k: usize) -> Option<Arc>
 // Whether nothing is known of a register at the header, or that it has the number itself.
 fn is_row_begun(case: &TurnCase<'_>, r: u8) -> bool
     requires case { IsTurnCase case.now }
-    ensures { result ≡ true → ((cert case.now).row (at_of case.now case.now.header) r ≡ unknown) ⊎ ((place_view case.now.table.now.place ≡ in_register r) × relating.IsBegun ((cert case.now).row (at_of case.now case.now.header) r)) }
+    ensures { result ≡ true → ((cert case.now).row (at_of case.now case.now.header) r ≡ unknown) ⊎
+        ((place_view case.now.table.now.place ≡ in_register r) × relating.IsBegun
+        ((cert case.now).row (at_of case.now case.now.header) r)) }
 {
     let relation = row_at(case.claim, case.table, case.header, r);
     if matches!(&relation, Relation::Unknown) {
@@ -103,7 +105,9 @@ fn is_row_begun(case: &TurnCase<'_>, r: u8) -> bool
 // The same of each register.
 fn are_rows_begun(case: &TurnCase<'_>) -> bool
     requires case { IsTurnCase case.now }
-    ensures { result ≡ true → (r : ℕ) → IsRegister r → ((cert case.now).row (at_of case.now case.now.header) r ≡ unknown) ⊎ ((place_view case.now.table.now.place ≡ in_register r) × relating.IsBegun ((cert case.now).row (at_of case.now case.now.header) r)) }
+    ensures { result ≡ true → (r : ℕ) → IsRegister r → ((cert case.now).row (at_of case.now case.now.header) r ≡ unknown) ⊎
+        ((place_view case.now.table.now.place ≡ in_register r) × relating.IsBegun
+        ((cert case.now).row (at_of case.now case.now.header) r)) }
 {
     for r in 1..32u8 {
         if !is_row_begun(case, r) {
@@ -116,7 +120,8 @@ fn are_rows_begun(case: &TurnCase<'_>) -> bool
 // What the code says of the header.
 fn is_header_so(case: &TurnCase<'_>) -> bool
     requires case { IsTurnCase case.now }
-    ensures { result ≡ true → IsHeaderSo (values_in case.now.claim.now) (stacks_in case.now.claim.now) (cert case.now) (at_of case.now case.now.header) }
+    ensures { result ≡ true → IsHeaderSo (values_in case.now.claim.now) (stacks_in case.now.claim.now) (cert case.now)
+        (at_of case.now case.now.header) }
 {
     let (claim, table, h) = (case.claim, case.table, case.header);
     if !are_rows_begun(case) {

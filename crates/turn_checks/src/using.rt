@@ -19,7 +19,8 @@ fn is_positive(case: &TurnCase<'_>, i: Instr, k: usize, n: usize, r: u8) -> bool
     requires from { k < length case.now.claim.now.graph.now.code.nodes }
     requires to { n < length case.now.claim.now.graph.now.code.nodes }
     requires register { r < 32 }
-    ensures { result ≡ true → 0 < values.least_of (values.passed i (at_of case.now k) (at_of case.now n) ((values_in case.now.claim.now).at (at_of case.now k)) r) }
+    ensures { result ≡ true → 0 < values.least_of (values.passed i (at_of case.now k) (at_of case.now n)
+        ((values_in case.now.claim.now).at (at_of case.now k)) r) }
 {
     let claim = case.claim;
     let arc = passed(i, address(claim, k), address(claim, n), arcs(claim, k), r);

@@ -143,7 +143,8 @@ IsLoadedOwn w c a i r b = (k : ℕ) × (c.place ≡ in_word k) × IsLoadedTo w a
 
 -- a register's relation behind the instruction at a
 abbrev pub IsRowOver : Values → Stacks → TurnCertificate → ℕ → Instr → ℕ → Relation → Type 0
-IsRowOver v w c a i r b = ((keeps r i ≡ true) × IsWeaker b (c.row a r)) ⊎ IsMadeOver v c a i r b ⊎ IsLoadedOwn w c a i r b ⊎ IsWeaker b unknown
+IsRowOver v w c a i r b = ((keeps r i ≡ true) × IsWeaker b (c.row a r)) ⊎ IsMadeOver v c a i r b ⊎ IsLoadedOwn w c a i r b ⊎
+    IsWeaker b unknown
 
 -- that of a word, which is left or stored
 abbrev pub IsWordOver : Values → Stacks → TurnCertificate → ℕ → Instr → ℕ → Relation → Type 0
@@ -163,7 +164,8 @@ IsOwnBack v w c a to (in_word k) b = IsWeaker b unknown ⊎ (IsSafe v w a to k �
 
 -- A register that the instruction leaves is not 0 on the way to b, and so neither was the number at the header.
 abbrev pub IsEvident : Values → TurnCertificate → ℕ → Instr → ℕ → Type 0
-IsEvident v c a i b = (r : ℕ) × (less : ℕ) × (shift : ℕ) × IsRegister r × (keeps r i ≡ true) × (c.row a r ≡ below less shift) × (0 < least_of (passed i a b (v.at a) r))
+IsEvident v c a i b = (r : ℕ) × (less : ℕ) × (shift : ℕ) × IsRegister r × (keeps r i ≡ true) × (c.row a r ≡ below less shift) ×
+    (0 < least_of (passed i a b (v.at a) r))
 
 -- what the place is related by behind the instruction at a, and behind a call there
 abbrev pub IsPlaceOver : Values → Stacks → TurnCertificate → ℕ → Instr → Place → Relation → Type 0
@@ -177,7 +179,8 @@ IsPlaceBack t v w c a to (in_word k) b = IsOwnBack v w c a to (in_word k) b
 -- what stands in the place at the end of a turn, by the kind
 abbrev pub IsTurned : TurnCertificate → Kind → Relation → Type 0
 IsTurned c (moves factor shift) unknown = ⊥
-IsTurned c (moves factor shift) (ahead_by i) = (most : ℕ) × Covers (Some (arc c.least most)) (scaled factor i) × (c.least + most + c.width < 2 ^ 32)
+IsTurned c (moves factor shift) (ahead_by i) = (most : ℕ) × Covers (Some (arc c.least most)) (scaled factor i) ×
+    (c.least + most + c.width < 2 ^ 32)
 IsTurned c (moves factor shift) (below less by) = ⊥
 IsTurned c lowers unknown = ⊥
 IsTurned c lowers (ahead_by i) = ⊥
@@ -197,10 +200,12 @@ IsUsed v c a i b = (c.used a ≡ true) ⊎ IsEvident v c a i b
 
 -- a turn that the instruction at a ends, which is no call, and one that a call ends
 abbrev pub IsTurnOver : Values → Stacks → TurnCertificate → ℕ → Instr → ℕ → Type 0
-IsTurnOver v w c a i b = ((r : Relation) × IsPlaceOver v w c a i c.place r × IsTurned c c.kind r) × (is_halving c.kind ≡ true → IsUsed v c a i b)
+IsTurnOver v w c a i b = ((r : Relation) × IsPlaceOver v w c a i c.place r × IsTurned c c.kind r) ×
+    (is_halving c.kind ≡ true → IsUsed v c a i b)
 
 abbrev pub IsTurnBack : Text → Values → Stacks → TurnCertificate → (a to : ℕ) → Type 0
-IsTurnBack t v w c a to = ((r : Relation) × IsPlaceBack t v w c a to c.place r × IsTurned c c.kind r) × (is_halving c.kind ≡ true → c.used a ≡ true)
+IsTurnBack t v w c a to = ((r : Relation) × IsPlaceBack t v w c a to c.place r × IsTurned c c.kind r) ×
+    (is_halving c.kind ≡ true → c.used a ≡ true)
 
 -- what holds at the header of what is counted in, by its interval there
 abbrev pub IsStarted : TurnCertificate → Kind → Option Arc → Type 0
@@ -234,15 +239,22 @@ pub record IsTurnCertificate (t : Text) (g : Graph) (v : Values) (w : Stacks) (h
   -- what is counted as a turn comes from the body
   pub counts : (a : ℕ) → Leads g a header → v.live a ≡ true → extent a ≡ true → c.body a ≡ true
   -- within the body each instruction keeps the relations
-  pub along : (a b r : ℕ) (i : Instr) → Steps g a b → v.live a ≡ true → c.body a ≡ true → c.body b ≡ true → b ≢ header → instr_at t a ≡ Some i → IsRegister r → IsRowOver v w c a i r (c.row b r)
-  pub along_own : (a b : ℕ) (i : Instr) → Steps g a b → v.live a ≡ true → c.body a ≡ true → c.body b ≡ true → b ≢ header → instr_at t a ≡ Some i → IsOwnOver v w c a i c.place (c.own b)
-  pub along_used : (a b : ℕ) (i : Instr) → Steps g a b → v.live a ≡ true → c.body a ≡ true → c.body b ≡ true → b ≢ header → instr_at t a ≡ Some i → c.used b ≡ true → IsUsed v c a i b
+  pub along : (a b r : ℕ) (i : Instr) → Steps g a b → v.live a ≡ true → c.body a ≡ true → c.body b ≡ true → b ≢ header →
+      instr_at t a ≡ Some i → IsRegister r → IsRowOver v w c a i r (c.row b r)
+  pub along_own : (a b : ℕ) (i : Instr) → Steps g a b → v.live a ≡ true → c.body a ≡ true → c.body b ≡ true → b ≢ header →
+      instr_at t a ≡ Some i → IsOwnOver v w c a i c.place (c.own b)
+  pub along_used : (a b : ℕ) (i : Instr) → Steps g a b → v.live a ≡ true → c.body a ≡ true → c.body b ≡ true → b ≢ header →
+      instr_at t a ≡ Some i → c.used b ≡ true → IsUsed v c a i b
   -- and so does each call
-  pub back : (a to b r : ℕ) → Calls g a to → Leads g a b → v.live a ≡ true → c.body a ≡ true → c.body b ≡ true → b ≢ header → IsRegister r → IsRowBack t v w c a to r (c.row b r)
-  pub back_own : (a to b : ℕ) → Calls g a to → Leads g a b → v.live a ≡ true → c.body a ≡ true → c.body b ≡ true → b ≢ header → IsOwnBack v w c a to c.place (c.own b)
-  pub back_used : (a to b : ℕ) → Calls g a to → Leads g a b → v.live a ≡ true → c.body a ≡ true → c.body b ≡ true → b ≢ header → c.used b ≡ true → c.used a ≡ true
+  pub back : (a to b r : ℕ) → Calls g a to → Leads g a b → v.live a ≡ true → c.body a ≡ true → c.body b ≡ true → b ≢ header →
+      IsRegister r → IsRowBack t v w c a to r (c.row b r)
+  pub back_own : (a to b : ℕ) → Calls g a to → Leads g a b → v.live a ≡ true → c.body a ≡ true → c.body b ≡ true → b ≢ header →
+      IsOwnBack v w c a to c.place (c.own b)
+  pub back_used : (a to b : ℕ) → Calls g a to → Leads g a b → v.live a ≡ true → c.body a ≡ true → c.body b ≡ true → b ≢ header →
+      c.used b ≡ true → c.used a ≡ true
   -- each turn does what the kind says
-  pub turns : (a : ℕ) (i : Instr) → Steps g a header → v.live a ≡ true → c.body a ≡ true → instr_at t a ≡ Some i → IsTurnOver v w c a i header
+  pub turns : (a : ℕ) (i : Instr) → Steps g a header → v.live a ≡ true → c.body a ≡ true → instr_at t a ≡ Some i →
+      IsTurnOver v w c a i header
   pub turns_back : (a to : ℕ) → Calls g a to → Leads g a header → v.live a ≡ true → c.body a ≡ true → IsTurnBack t v w c a to
   -- calls from the body go to quiet code
   pub calls : (a b : ℕ) → Calls g a b → v.live a ≡ true → c.body a ≡ true → c.quiet b ≡ true

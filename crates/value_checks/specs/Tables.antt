@@ -1,4 +1,4 @@
--- A table of values as what `bound_laws` calls values: by address what stands beside it in the list of nodes, by register what stands in the
+-- Scaffold: a table of values as what `bound_laws` calls values: by address what stands beside it in the list of nodes, by register what stands in the
 -- row, and by number of a form what stands in the row of lines.
 use Rattle.std.specs.Prelude.{◌≡◌, ℕ, ◌≤◌, Bool, false, List, [], ◌∷◌, length, map, slice_get, option_map, nat_eq, ◌==◌, if◌then◌else◌, Option, Some, None, Vec}
 use Rattle.std.specs.List.{All, find}

@@ -53,7 +53,8 @@ pub record AreCounts (g : Graph) (l : Loops) (path turn : ℕ → List ℕ) (x c
   pub taken : (c : ℕ → ℕ) → taken_total g x c ≡ parts_total g l path turn calls entries c
   pub called : (f : ℕ) → f < g.functions → calls f ≡ taken_total g x (λ e. only (is_number f (g.callee e)) 1) + only (nat_eq f 0) 1
   pub entered : (k : ℕ) → k < l.loops →
-      entries k ≡ taken_total g x (λ e. only (enters l k (g.source e) (g.target e)) 1) + sum_below g.functions (λ f. calls f * only (l.inside k (g.entry f)) 1)
+      entries k ≡ taken_total g x (λ e. only (enters l k (g.source e) (g.target e)) 1) + sum_below g.functions
+      (λ f. calls f * only (l.inside k (g.entry f)) 1)
 
 -- THE LAW
 

@@ -1,4 +1,4 @@
--- What is left at the nodes of a program, the turns round them, and the contexts of its functions, as tables.
+-- Scaffold: what is left at the nodes of a program, the turns round them, and the contexts of its functions, as tables.
 use Rattle.std.specs.Prelude.{◌≡◌, ◌≢◌, ℕ, ◌+◌, ◌^◌, ◌<◌, ◌≤◌, ◌⊎◌, true, List, length, slice_get, Some, Result, Ok, Err}
 use Rattle.scale_base.specs.declared.refusal.Refusal.{Refusal}
 use Rattle.graph_algorithms.specs.Arcs.{number_in_place}
@@ -30,7 +30,8 @@ pub record IsLeftTo (l : Loops) (n : Numbers) (Done : ℕ → Type 0) (at x : �
       b + n.left (l.header k) ≤ x + n.iteration k
 
 abbrev pub AreLeftsTo : FlowGraph → LoopView → (ℕ → ℕ) → Plan → ℕ → List ℕ → Type 0
-AreLeftsTo v t w plan i left = (n : Numbers) → AreSolvedBy v t w n → (k : ℕ) → k < length v.code.nodes → IsLeftTo (loops v t) n (IsHeadedFrom t plan i) (node_address v k) (number_in_place left k)
+AreLeftsTo v t w plan i left = (n : Numbers) → AreSolvedBy v t w n → (k : ℕ) → k < length v.code.nodes →
+    IsLeftTo (loops v t) n (IsHeadedFrom t plan i) (node_address v k) (number_in_place left k)
 
 -- by node, what is left there
 pub record AreLefts (v : FlowGraph) (t : LoopView) (w : ℕ → ℕ) (left : List ℕ) : Type 0 where
@@ -47,7 +48,8 @@ AreLeftsFound v t w (Err refusal) = ⊥
 -- by node, all turns of the loops round it
 pub record AreTurnsRound (v : FlowGraph) (t : LoopView) (w : ℕ → ℕ) (around : List ℕ) : Type 0 where
   pub size : length around ≡ length v.code.nodes
-  pub each : (n : Numbers) → AreSolvedBy v t w n → (k : ℕ) → k < length v.code.nodes → number_in_place around k ≡ turns_round (loops v t) n (Some (node_address v k))
+  pub each : (n : Numbers) → AreSolvedBy v t w n → (k : ℕ) → k < length v.code.nodes →
+      number_in_place around k ≡ turns_round (loops v t) n (Some (node_address v k))
 
 -- ---- contexts
 
@@ -61,7 +63,8 @@ abbrev pub IsFromPlace : FlowGraph → Plan → ℕ → ℕ → Type 0
 IsFromPlace v plan i e = (k : ℕ) → slice_get v.code.nodes k ≡ Some ((graph v).source e) → i ≤ number_in_place plan.places.items k
 
 abbrev pub AreContextsTo : FlowGraph → LoopView → (ℕ → ℕ) → Plan → ℕ → List ℕ → Type 0
-AreContextsTo v t w plan i context = (n : Numbers) → AreSolvedBy v t w n → (f : ℕ) → f < length v.code.functions → IsContextTo (graph v) (loops v t) w n (IsFromPlace v plan i) f (number_in_place context f)
+AreContextsTo v t w plan i context = (n : Numbers) → AreSolvedBy v t w n → (f : ℕ) → f < length v.code.functions →
+    IsContextTo (graph v) (loops v t) w n (IsFromPlace v plan i) f (number_in_place context f)
 
 -- by function, its context
 pub record AreContexts (v : FlowGraph) (t : LoopView) (w : ℕ → ℕ) (context : List ℕ) : Type 0 where
@@ -72,18 +75,21 @@ pub record AreContexts (v : FlowGraph) (t : LoopView) (w : ℕ → ℕ) (context
 pub record AreContextsRaised (g : Graph) (l : Loops) (w : ℕ → ℕ) (n : Numbers) (at : ℕ) (old new : List ℕ) : Type 0 where
   pub higher : (f : ℕ) → number_in_place old f ≤ number_in_place new f
   pub over : (e f : ℕ) → g.source e ≡ at → IsReturningCall g f e → context_of g l w n e ≤ number_in_place new f
-  pub either : (f : ℕ) → (number_in_place new f ≡ number_in_place old f) ⊎ ((e : ℕ) × (g.source e ≡ at) × IsReturningCall g f e × (number_in_place new f ≡ context_of g l w n e))
+  pub either : (f : ℕ) → (number_in_place new f ≡ number_in_place old f) ⊎ ((e : ℕ) × (g.source e ≡ at) × IsReturningCall g f e ×
+      (number_in_place new f ≡ context_of g l w n e))
 
 -- ---- slacks and rests
 
 -- by edge, its slack, and the rest behind it
 pub record AreSlacks (v : FlowGraph) (t : LoopView) (w : ℕ → ℕ) (slacks : List ℕ) : Type 0 where
   pub size : length slacks ≡ length v.code.edges
-  pub each : (n : Numbers) → AreSolvedBy v t w n → (e : ℕ) → e < length v.code.edges → number_in_place slacks e ≡ slack_at (graph v) (loops v t) w n e
+  pub each : (n : Numbers) → AreSolvedBy v t w n → (e : ℕ) → e < length v.code.edges →
+      number_in_place slacks e ≡ slack_at (graph v) (loops v t) w n e
 
 pub record AreRestsBehind (v : FlowGraph) (t : LoopView) (w : ℕ → ℕ) (rests : List ℕ) : Type 0 where
   pub size : length rests ≡ length v.code.edges
-  pub each : (n : Numbers) → AreSolvedBy v t w n → (e : ℕ) → e < length v.code.edges → number_in_place rests e ≡ rest_at (graph v) (loops v t) n e
+  pub each : (n : Numbers) → AreSolvedBy v t w n → (e : ℕ) → e < length v.code.edges →
+      number_in_place rests e ≡ rest_at (graph v) (loops v t) n e
 
 -- all tables of what is left
 pub record AreParts (v : FlowGraph) (t : LoopView) (w : ℕ → ℕ) (parts : LeftParts) : Type 0 where

@@ -1,4 +1,4 @@
--- The nodes whose numbers those of others are made of.
+-- Scaffold: the nodes whose numbers those of others are made of.
 use Rattle.std.specs.Prelude.{◌≡◌, ℕ, ◌+◌, ◌<◌, ◌≤◌, ◌⊎◌, Bool, List, length, slice_get, Option, Some}
 use Rattle.graph_algorithms.specs.declared.orders.Arc.{Arc}
 use Rattle.graph_algorithms.specs.Arcs.{arc_at, number_in_place, AreDistinct}
@@ -32,9 +32,12 @@ StartsAtNode v e k = slice_get v.code.nodes k ≡ Some ((graph v).source e)
 -- arcs from the node of each edge to what is needed for it: the nodes to which plain edges lead, and the entries that the first n edges call
 pub record AreNeeds (v : FlowGraph) (backs : List (Option ℕ)) (entries : List ℕ) (n : ℕ) (arcs : List Arc) : Type 0 where
   pub few : length arcs ≤ length v.code.edges + n
-  pub each : (s : ℕ) → s < length arcs → (e : ℕ) × (e < length v.code.edges) × StartsAtNode v e (arc_at arcs s).from × IsNeeded v backs entries e (arc_at arcs s).to
-  pub led : (e t : ℕ) → e < length v.code.edges → LeadsPlainly v backs e t → (s : ℕ) × (s < length arcs) × StartsAtNode v e (arc_at arcs s).from × ((arc_at arcs s).to ≡ t)
-  pub called : (e t : ℕ) → e < n → CallsNode v entries e t → (s : ℕ) × (s < length arcs) × StartsAtNode v e (arc_at arcs s).from × ((arc_at arcs s).to ≡ t)
+  pub each : (s : ℕ) → s < length arcs → (e : ℕ) × (e < length v.code.edges) × StartsAtNode v e (arc_at arcs s).from ×
+      IsNeeded v backs entries e (arc_at arcs s).to
+  pub led : (e t : ℕ) → e < length v.code.edges → LeadsPlainly v backs e t → (s : ℕ) × (s < length arcs) ×
+      StartsAtNode v e (arc_at arcs s).from × ((arc_at arcs s).to ≡ t)
+  pub called : (e t : ℕ) → e < n → CallsNode v entries e t → (s : ℕ) × (s < length arcs) × StartsAtNode v e (arc_at arcs s).from ×
+      ((arc_at arcs s).to ≡ t)
 
 -- the loops of a tree are accepted in a graph
 abbrev pub HasTree : FlowGraph → LoopView → Type 0
@@ -45,7 +48,8 @@ pub record IsNeededFirst (v : FlowGraph) (backs : List (Option ℕ)) (entries or
   pub within : (i : ℕ) → i < length order → number_in_place order i < length v.code.nodes
   pub whole : (k : ℕ) → k < length v.code.nodes → (i : ℕ) × (i < length order) × (number_in_place order i ≡ k)
   pub distinct : AreDistinct order
-  pub ready : (i e t : ℕ) → i < length order → e < length v.code.edges → StartsAtNode v e (number_in_place order i) → IsNeeded v backs entries e t →
+  pub ready : (i e t : ℕ) → i < length order → e < length v.code.edges → StartsAtNode v e (number_in_place order i) →
+      IsNeeded v backs entries e t →
       (j : ℕ) × (j < i) × (number_in_place order j ≡ t)
 
 -- by node, its place in an order

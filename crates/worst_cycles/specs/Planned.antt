@@ -1,4 +1,4 @@
--- What is known of a graph whose nodes are in order, and of one whose nodes are all visited.
+-- Scaffold: what is known of a graph whose nodes are in order, and of one whose nodes are all visited.
 use Rattle.std.specs.Prelude.{◌≡◌, List, ℕ, length}
 use Rattle.flow_graph.specs.FlowGraph.{FlowGraph, IsFlowGraph}
 use Rattle.loop_forest.specs.Tree.{LoopView}

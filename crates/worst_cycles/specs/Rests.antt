@@ -1,4 +1,4 @@
--- The rests of an iteration of a loop, by the places of its body's nodes in an order.
+-- Scaffold: the rests of an iteration of a loop, by the places of its body's nodes in an order.
 use Rattle.std.specs.Prelude.{◌≡◌, ◌≢◌, ℕ, ◌+◌, ◌^◌, ◌<◌, ◌≤◌, ◌↔◌, ◌⊎◌, Bool, true, false, List, length, slice_get, slice_index_or, Option, Some, None, Result, Ok, Err}
 use Rattle.scale_base.specs.declared.refusal.Refusal.{Refusal}
 use Rattle.scale_base.specs.declared.refusal.Refusal.TheVariants.{TooLong}
@@ -20,8 +20,10 @@ use Rattle.worst_cycles.specs.Visits.{visit_at, IsCallKnown, AreSolvedBy, IsOver
 -- the places of the nodes of a body, ascending
 pub record AreBodyPlaces (body places steps : List ℕ) : Type 0 where
   pub rise : (i j : ℕ) → i ≤ j → j < length steps → number_in_place steps i ≤ number_in_place steps j
-  pub each : (m : ℕ) → m < length steps → (i : ℕ) × (i < length body) × (number_in_place steps m ≡ number_in_place places (number_in_place body i))
-  pub whole : (i : ℕ) → i < length body → (m : ℕ) × (m < length steps) × (number_in_place steps m ≡ number_in_place places (number_in_place body i))
+  pub each : (m : ℕ) → m < length steps → (i : ℕ) × (i < length body) × (number_in_place steps m ≡ number_in_place places
+      (number_in_place body i))
+  pub whole : (i : ℕ) → i < length body → (m : ℕ) × (m < length steps) × (number_in_place steps m ≡ number_in_place places
+      (number_in_place body i))
 
 -- ---- rests
 
@@ -36,19 +38,22 @@ pub record AreRests (rests : Rests) : Type 0 where
 -- what they have of the node at a place: its rest, or none where the place isn't among theirs or its rest isn't found yet
 abbrev pub IsRestOf : Rests → ℕ → Option ℕ → Type 0
 IsRestOf rests place o =
-    ((m : ℕ) × (m < length rests.found.items) × (m < length rests.steps.items) × (number_in_place rests.steps.items m ≡ place) × (o ≡ rest_in rests.found.items m)) ⊎
+    ((m : ℕ) × (m < length rests.found.items) × (m < length rests.steps.items) × (number_in_place rests.steps.items m ≡ place) ×
+    (o ≡ rest_in rests.found.items m)) ⊎
     ((o ≡ None) × (((m : ℕ) → m < length rests.steps.items → number_in_place rests.steps.items m ≢ place) ⊎
     ((m : ℕ) × (length rests.found.items ≤ m) × (m < length rests.steps.items) × (number_in_place rests.steps.items m ≡ place))))
 
 -- the edge's cost with all turns of the loop that it enters, added to a rest
 abbrev pub IsAdded : FlowGraph → Plan → (ℕ → ℕ) → List Visit → ℕ → ℕ → Option ℕ → Option ℕ → Type 0
 IsAdded v plan w visits e k None o = o ≡ None
-IsAdded v plan w visits e k (Some b) o = (c : ℕ) × (o ≡ Some (c + (visit_at visits k).turns + b)) × ((n : Numbers) → IsCallKnown v plan visits n e → c ≡ cost (graph v) n w e)
+IsAdded v plan w visits e k (Some b) o = (c : ℕ) × (o ≡ Some (c + (visit_at visits k).turns + b)) ×
+    ((n : Numbers) → IsCallKnown v plan visits n e → c ≡ cost (graph v) n w e)
 
 -- o is what they have for an edge: the rest of the node to which it leads, with the edge added, if there is one
 abbrev pub IsRestPast : FlowGraph → Plan → (ℕ → ℕ) → List Visit → Rests → ℕ → Option ℕ → Type 0
 IsRestPast v plan w visits rests e o =
-    ((k : ℕ) × (r : Option ℕ) × ((graph v).target e ≡ slice_get v.code.nodes k) × (k < length v.code.nodes) × IsRestOf rests (number_in_place plan.places.items k) r × IsAdded v plan w visits e k r o) ⊎
+    ((k : ℕ) × (r : Option ℕ) × ((graph v).target e ≡ slice_get v.code.nodes k) × (k < length v.code.nodes) ×
+    IsRestOf rests (number_in_place plan.places.items k) r × IsAdded v plan w visits e k r o) ⊎
     (((graph v).target e ≡ None) × (o ≡ None))
 
 abbrev pub held : Bool → Option ℕ → Option ℕ
@@ -61,7 +66,8 @@ closing_at l n k at = held (l.inside k at) (n.closing k at)
 
 -- they have the rest of the node to which an edge leads if it is plain
 abbrev pub IsRestKnown : FlowGraph → LoopView → Plan → Rests → Numbers → ℕ → ℕ → Type 0
-IsRestKnown v t plan rests n k e = (u at : ℕ) (o : Option ℕ) → slice_get v.code.nodes u ≡ Some at → (graph v).target e ≡ Some at → IsPlain (graph v) (loops v t) e →
+IsRestKnown v t plan rests n k e = (u at : ℕ) (o : Option ℕ) → slice_get v.code.nodes u ≡ Some at → (graph v).target e ≡ Some at →
+    IsPlain (graph v) (loops v t) e →
     IsRestOf rests (number_in_place plan.places.items u) o → o ≡ closing_at (loops v t) n k at
 
 abbrev pub AreRestsKnownAt : FlowGraph → LoopView → Plan → Rests → Numbers → ℕ → ℕ → Type 0
@@ -84,7 +90,8 @@ address_at v plan steps m = node_address v (number_in_place plan.order.items (nu
 
 -- the rests of the first m of these nodes are found
 abbrev pub AreFoundTo : FlowGraph → LoopView → (ℕ → ℕ) → Plan → ℕ → List ℕ → ℕ → List (Option ℕ) → Type 0
-AreFoundTo v t w plan l steps m found = (n : Numbers) → AreSolvedBy v t w n → (q : ℕ) → q < m → rest_in found q ≡ n.closing l (address_at v plan steps q)
+AreFoundTo v t w plan l steps m found = (n : Numbers) → AreSolvedBy v t w n → (q : ℕ) → q < m →
+    rest_in found q ≡ n.closing l (address_at v plan steps q)
 
 -- they are the rests of an iteration of loop l from all nodes of its body
 pub record AreRestsOf (v : FlowGraph) (t : LoopView) (w : ℕ → ℕ) (plan : Plan) (l : ℕ) (rests : Rests) : Type 0 where

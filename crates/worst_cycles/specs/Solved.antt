@@ -1,4 +1,4 @@
--- What the numbers of an accepted program keep over one edge, at one node and in one loop: all that a pass over the nodes needs of them.
+-- Scaffold: what the numbers of an accepted program keep over one edge, at one node and in one loop: all that a pass over the nodes needs of them.
 use Rattle.std.specs.Prelude.{◌≡◌, ◌≢◌, ℕ, ◌+◌, ◌<◌, ◌≤◌, true, false, Some, None}
 use Rattle.cost_theory.specs.Graph.{Graph, Loops, is_back}
 use Rattle.cost_theory.specs.Worst.{Numbers, cost, charged, all_of, IsLeft, IsContext, left_at, turn_back, turns_round}
@@ -13,7 +13,8 @@ pub record AreSolved (g : Graph) (l : Loops) (w : ℕ → ℕ) (n : Numbers) : T
   -- what an edge is charged
   pub on : (e : ℕ) → e < g.edges → ((k : ℕ) → k < l.loops → g.target e ≢ Some (l.header k)) → charge g l w n e ≡ cost g n w e
   pub back : (e k : ℕ) → e < g.edges → k < l.loops → is_back g l k e ≡ true → charge g l w n e ≡ cost g n w e
-  pub into : (e k : ℕ) → e < g.edges → k < l.loops → g.target e ≡ Some (l.header k) → is_back g l k e ≡ false → charge g l w n e ≡ cost g n w e + all_of l n k
+  pub into : (e k : ℕ) → e < g.edges → k < l.loops → g.target e ≡ Some (l.header k) → is_back g l k e ≡ false →
+      charge g l w n e ≡ cost g n w e + all_of l n k
   -- paths and iterations over one edge
   pub plain : (v : ℕ) → IsNode g v → IsPlainOver g l w n v
   pub closing : (k v : ℕ) → k < l.loops → l.inside k v ≡ true → IsClosingOver g l w n k v
@@ -24,7 +25,8 @@ pub record AreSolved (g : Graph) (l : Loops) (w : ℕ → ℕ) (n : Numbers) : T
   -- what is within the worst cycles of the program
   pub plain_within : (v : ℕ) → IsNode g v → n.plain v ≤ n.worst 0
   pub turns_within : (k : ℕ) → k < l.loops → all_of l n k ≤ n.worst 0
-  pub closing_near : (most : ℕ) → ((e : ℕ) → e < g.edges → g.callee e ≡ None → w e ≤ most) → (k v b : ℕ) → k < l.loops → l.inside k v ≡ true → n.closing k v ≡ Some b → b ≤ n.worst 0 + most
+  pub closing_near : (most : ℕ) → ((e : ℕ) → e < g.edges → g.callee e ≡ None → w e ≤ most) → (k v b : ℕ) → k < l.loops →
+      l.inside k v ≡ true → n.closing k v ≡ Some b → b ≤ n.worst 0 + most
   pub left_within : (v : ℕ) → IsNode g v → n.left v + turns_round l n (Some v) ≤ n.worst 0
   pub context_within : (f : ℕ) → f < g.functions → n.context f ≤ n.worst 0
   -- what is left at a node, behind an edge, and behind the calls of a function

@@ -1,4 +1,4 @@
--- What a pass over the nodes finds at each of them.
+-- Scaffold: what a pass over the nodes finds at each of them.
 use Rattle.std.specs.Prelude.{◌≡◌, ◌≢◌, ℕ, ◌+◌, ◌^◌, ◌<◌, ◌≤◌, ◌⊎◌, List, length, slice_get, slice_index, slice_index_or, Option, Some, None, Result, Ok, Err}
 use Rattle.scale_base.specs.declared.refusal.Refusal.{Refusal}
 use Rattle.scale_base.specs.declared.refusal.Refusal.TheVariants.{TooLong}
@@ -38,7 +38,8 @@ visit_at visits k = slice_index_or visits k (record { plain = 0; turns = 0; iter
 
 -- all turns of the loop whose header a node is, and 0 at other nodes
 abbrev pub IsTurnsAt : Loops → Numbers → ℕ → ℕ → Type 0
-IsTurnsAt l n at x = ((k : ℕ) × (k < l.loops) × (l.header k ≡ at) × (x ≡ all_of l n k)) ⊎ (((k : ℕ) → k < l.loops → l.header k ≢ at) × (x ≡ 0))
+IsTurnsAt l n at x = ((k : ℕ) × (k < l.loops) × (l.header k ≡ at) × (x ≡ all_of l n k)) ⊎
+    (((k : ℕ) → k < l.loops → l.header k ≢ at) × (x ≡ 0))
 
 pub record IsVisit (l : Loops) (n : Numbers) (at : ℕ) (x : Visit) : Type 0 where
   pub plain : x.plain ≡ n.plain at
@@ -57,12 +58,14 @@ pub record AreVisits (v : FlowGraph) (visits : List Visit) : Type 0 where
 
 -- the table has the numbers that are needed for an edge: those of the function that it calls,
 abbrev pub IsCallKnown : FlowGraph → Plan → List Visit → Numbers → ℕ → Type 0
-IsCallKnown v plan visits n e = (f : ℕ) → (graph v).callee e ≡ Some f → (visit_at visits (number_in_place plan.entries.items f)).plain + (visit_at visits (number_in_place plan.entries.items f)).turns ≡ n.worst f
+IsCallKnown v plan visits n e = (f : ℕ) → (graph v).callee e ≡ Some f → (visit_at visits (number_in_place plan.entries.items f)).plain +
+    (visit_at visits (number_in_place plan.entries.items f)).turns ≡ n.worst f
 
 -- and those of the node to which it leads if it is plain
 pub record IsEdgeKnown (v : FlowGraph) (t : LoopView) (plan : Plan) (visits : List Visit) (n : Numbers) (e : ℕ) : Type 0 where
   pub called : IsCallKnown v plan visits n e
-  pub led : (k at : ℕ) → slice_get v.code.nodes k ≡ Some at → (graph v).target e ≡ Some at → IsPlain (graph v) (loops v t) e → IsVisit (loops v t) n at (visit_at visits k)
+  pub led : (k at : ℕ) → slice_get v.code.nodes k ≡ Some at → (graph v).target e ≡ Some at → IsPlain (graph v) (loops v t) e →
+      IsVisit (loops v t) n at (visit_at visits k)
 
 abbrev pub AreKnownAt : FlowGraph → LoopView → Plan → List Visit → Numbers → ℕ → Type 0
 AreKnownAt v t plan visits n at = (e : ℕ) → e < length v.code.edges → (graph v).source e ≡ at → IsEdgeKnown v t plan visits n e
@@ -70,7 +73,8 @@ AreKnownAt v t plan visits n at = (e : ℕ) → e < length v.code.edges → (gra
 -- x is what a path that enters the node to which an edge leads costs from there on, and 0 where there is none
 abbrev pub IsBehind : FlowGraph → List Visit → ℕ → ℕ → Type 0
 IsBehind v visits e x =
-    ((k : ℕ) × ((graph v).target e ≡ slice_get v.code.nodes k) × (k < length v.code.nodes) × (x ≡ (visit_at visits k).turns + (visit_at visits k).plain)) ⊎
+    ((k : ℕ) × ((graph v).target e ≡ slice_get v.code.nodes k) × (k < length v.code.nodes) ×
+    (x ≡ (visit_at visits k).turns + (visit_at visits k).plain)) ⊎
     (((graph v).target e ≡ None) × (x ≡ 0))
 
 -- the edge's charge and a plain path from behind it
@@ -92,12 +96,14 @@ IsOverLimit v t w = (n : Numbers) → AreSolvedBy v t w n → 2 ^ 48 < n.worst 0
 
 -- the table has what is found at the first i nodes of the order
 abbrev pub AreVisitedTo : FlowGraph → LoopView → (ℕ → ℕ) → List ℕ → ℕ → List Visit → Type 0
-AreVisitedTo v t w order i visits = (n : Numbers) → AreSolvedBy v t w n → (j at : ℕ) → j < i → slice_get v.code.nodes (number_in_place order j) ≡ Some at → IsVisit (loops v t) n at (visit_at visits (number_in_place order j))
+AreVisitedTo v t w order i visits = (n : Numbers) → AreSolvedBy v t w n → (j at : ℕ) → j < i →
+    slice_get v.code.nodes (number_in_place order j) ≡ Some at → IsVisit (loops v t) n at (visit_at visits (number_in_place order j))
 
 -- what finding all turns and one iteration of the loop whose header node k is answers
 abbrev pub AreTurnsFound : FlowGraph → LoopView → (ℕ → ℕ) → ℕ → Result (ℕ × ℕ) Refusal → Type 0
 AreTurnsFound v t w k (Ok x) = (x.0 ≤ 2 ^ 48) × ((n : Numbers) → AreSolvedBy v t w n →
-    IsTurnsAt (loops v t) n (slice_index v.code.nodes k) x.0 × ((j : ℕ) → j < (loops v t).loops → (loops v t).header j ≡ slice_index v.code.nodes k → x.1 ≡ n.iteration j)) × (x.1 ≤ 2 ^ 48 + 2 ^ 32)
+    IsTurnsAt (loops v t) n (slice_index v.code.nodes k) x.0 × ((j : ℕ) → j < (loops v t).loops →
+    (loops v t).header j ≡ slice_index v.code.nodes k → x.1 ≡ n.iteration j)) × (x.1 ≤ 2 ^ 48 + 2 ^ 32)
 AreTurnsFound v t w k (Err refusal) = (refusal ≡ TooLong) × IsOverLimit v t w
 
 -- what finding the numbers of a node answers
@@ -108,7 +114,8 @@ IsVisitFound v t w k (Err refusal) = (refusal ≡ TooLong) × IsOverLimit v t w
 -- what finding those of all nodes answers
 pub record AreAllVisited (v : FlowGraph) (t : LoopView) (w : ℕ → ℕ) (visits : List Visit) : Type 0 where
   pub table : AreVisits v visits
-  pub each : (n : Numbers) → AreSolvedBy v t w n → (k at : ℕ) → slice_get v.code.nodes k ≡ Some at → IsVisit (loops v t) n at (visit_at visits k)
+  pub each : (n : Numbers) → AreSolvedBy v t w n → (k at : ℕ) → slice_get v.code.nodes k ≡ Some at →
+      IsVisit (loops v t) n at (visit_at visits k)
 
 abbrev pub AreVisitsFound : FlowGraph → LoopView → (ℕ → ℕ) → Result (List Visit) Refusal → Type 0
 AreVisitsFound v t w (Ok visits) = AreAllVisited v t w visits

@@ -17,8 +17,10 @@ fn add_turns(body: &[usize], turns: u64, around: &mut Vec<u64>)
     requires turns { turns ≤ 2 ^ 48 }
     requires small { (k : ℕ) → number_in_place around.old.items k ≤ 4096 * 2 ^ 48 }
     ensures size { length around.new.items ≡ length around.old.items }
-    ensures inside { (i : ℕ) → i < length body.now → number_in_place around.new.items (number_in_place body.now i) ≡ number_in_place around.old.items (number_in_place body.now i) + turns }
-    ensures outside { (k : ℕ) → ((i : ℕ) → i < length body.now → number_in_place body.now i ≢ k) → number_in_place around.new.items k ≡ number_in_place around.old.items k }
+    ensures inside { (i : ℕ) → i < length body.now → number_in_place around.new.items (number_in_place body.now i) ≡ number_in_place
+        around.old.items (number_in_place body.now i) + turns }
+    ensures outside { (k : ℕ) → ((i : ℕ) → i < length body.now → number_in_place body.now i ≢ k) →
+        number_in_place around.new.items k ≡ number_in_place around.old.items k }
 {
     for k in body {
         around[*k] += turns;
@@ -28,7 +30,8 @@ fn add_turns(body: &[usize], turns: u64, around: &mut Vec<u64>)
 /// By node, all turns of the loops round it.
 pub fn turns_around(alloc: Global, visited: &VisitedGraph<'_>) -> Result<Vec<u64>, NoMemory>
     requires visited { IsVisitedGraph visited.now }
-    ensures { IfOk result (λ around. AreTurnsRound visited.now.planned.graph.now visited.now.planned.tree.now (by_edge visited.now.planned.weights.now) around.items) }
+    ensures { IfOk result (λ around. AreTurnsRound visited.now.planned.graph.now visited.now.planned.tree.now
+        (by_edge visited.now.planned.weights.now) around.items) }
 {
     let tree = visited.planned.tree;
     let mut around = vec![in alloc; 0; visited.planned.graph.node_count()]?;

@@ -35,7 +35,8 @@ fn raise(table: &mut Vec<u64>, f: usize, cycles: u64)
     ensures size { length table.new.items ≡ length table.old.items }
     ensures higher { number_in_place table.old.items f ≤ number_in_place table.new.items f }
     ensures over { cycles ≤ number_in_place table.new.items f }
-    ensures either { (number_in_place table.new.items f ≡ number_in_place table.old.items f) ⊎ (number_in_place table.new.items f ≡ cycles) }
+    ensures either { (number_in_place table.new.items f ≡ number_in_place table.old.items f) ⊎
+        (number_in_place table.new.items f ≡ cycles) }
     ensures others { (g : ℕ) → g ≢ f → number_in_place table.new.items g ≡ number_in_place table.old.items g }
 {
     if cycles > table[f] {
@@ -53,12 +54,19 @@ fn raise_contexts(
 )
     requires visited { IsVisitedGraph visited.now }
     requires left { AreLefts visited.now.planned.graph.now visited.now.planned.tree.now (by_edge visited.now.planned.weights.now) left.now }
-    requires around { AreTurnsRound visited.now.planned.graph.now visited.now.planned.tree.now (by_edge visited.now.planned.weights.now) around.now }
+    requires around { AreTurnsRound visited.now.planned.graph.now visited.now.planned.tree.now (by_edge visited.now.planned.weights.now)
+        around.now }
     requires node { k < length visited.now.planned.graph.now.code.nodes }
     requires size { length context.old.items ≡ length visited.now.planned.graph.now.code.functions }
-    requires own { (n : Numbers) → AreSolvedBy visited.now.planned.graph.now visited.now.planned.tree.now (by_edge visited.now.planned.weights.now) n → number_in_place context.old.items ((graph_seen visited.now.planned.graph.now).owner (node_address visited.now.planned.graph.now k)) ≡ n.context ((graph_seen visited.now.planned.graph.now).owner (node_address visited.now.planned.graph.now k)) }
+    requires own { (n : Numbers) → AreSolvedBy visited.now.planned.graph.now visited.now.planned.tree.now
+        (by_edge visited.now.planned.weights.now) n → number_in_place context.old.items
+        ((graph_seen visited.now.planned.graph.now).owner (node_address visited.now.planned.graph.now k)) ≡ n.context
+        ((graph_seen visited.now.planned.graph.now).owner (node_address visited.now.planned.graph.now k)) }
     ensures size { length context.new.items ≡ length context.old.items }
-    ensures raised { (n : Numbers) → AreSolvedBy visited.now.planned.graph.now visited.now.planned.tree.now (by_edge visited.now.planned.weights.now) n → AreContextsRaised (graph_seen visited.now.planned.graph.now) (loops visited.now.planned.graph.now visited.now.planned.tree.now) (by_edge visited.now.planned.weights.now) n (node_address visited.now.planned.graph.now k) context.old.items context.new.items }
+    ensures raised { (n : Numbers) → AreSolvedBy visited.now.planned.graph.now visited.now.planned.tree.now
+        (by_edge visited.now.planned.weights.now) n → AreContextsRaised (graph_seen visited.now.planned.graph.now)
+        (loops visited.now.planned.graph.now visited.now.planned.tree.now) (by_edge visited.now.planned.weights.now) n
+        (node_address visited.now.planned.graph.now k) context.old.items context.new.items }
 {
     let graph = visited.planned.graph;
     let own = context[graph.owner(k)];
@@ -82,8 +90,10 @@ pub fn contexts_of(
 ) -> Result<Vec<u64>, NoMemory>
     requires visited { IsVisitedGraph visited.now }
     requires left { AreLefts visited.now.planned.graph.now visited.now.planned.tree.now (by_edge visited.now.planned.weights.now) left.now }
-    requires around { AreTurnsRound visited.now.planned.graph.now visited.now.planned.tree.now (by_edge visited.now.planned.weights.now) around.now }
-    ensures { IfOk result (λ context. AreContexts visited.now.planned.graph.now visited.now.planned.tree.now (by_edge visited.now.planned.weights.now) context.items) }
+    requires around { AreTurnsRound visited.now.planned.graph.now visited.now.planned.tree.now (by_edge visited.now.planned.weights.now)
+        around.now }
+    ensures { IfOk result (λ context. AreContexts visited.now.planned.graph.now visited.now.planned.tree.now
+        (by_edge visited.now.planned.weights.now) context.items) }
 {
     let plan = visited.planned.plan;
     let mut context = vec![in alloc; 0; visited.planned.graph.function_count()]?;

@@ -23,7 +23,8 @@ pub fn worst_of(
     requires entries { AreEntries graph.now entries.now }
     requires visits { AreVisits graph.now visits.now }
     ensures size { IfOk result (λ worst. length worst.items ≡ length entries.now) }
-    ensures each { IfOk result (λ worst. (f : ℕ) → f < length entries.now → number_in_place worst.items f ≡ (visit_at visits.now (number_in_place entries.now f)).plain + (visit_at visits.now (number_in_place entries.now f)).turns) }
+    ensures each { IfOk result (λ worst. (f : ℕ) → f < length entries.now → number_in_place worst.items f ≡
+        (visit_at visits.now (number_in_place entries.now f)).plain + (visit_at visits.now (number_in_place entries.now f)).turns) }
 {
     let mut worst = Vec::new(alloc);
     for k in entries {
@@ -37,7 +38,8 @@ pub fn worst_of(
 pub fn iterations_of(alloc: Global, tree: &LoopTree, visits: &[Visit]) -> Result<Vec<u64>, NoMemory>
     requires within { (k : ℕ) → k < length tree.now.headers → number_in_place tree.now.headers k < length visits.now }
     ensures size { IfOk result (λ iterations. length iterations.items ≡ length tree.now.headers) }
-    ensures each { IfOk result (λ iterations. (k : ℕ) → k < length tree.now.headers → number_in_place iterations.items k ≡ (visit_at visits.now (number_in_place tree.now.headers k)).iteration) }
+    ensures each { IfOk result (λ iterations. (k : ℕ) → k < length tree.now.headers →
+        number_in_place iterations.items k ≡ (visit_at visits.now (number_in_place tree.now.headers k)).iteration) }
 {
     let mut iterations = Vec::new(alloc);
     for l in 0..tree.loop_count() {

@@ -56,8 +56,10 @@ pub fn rests_of(
     requires within { l < length planned.now.tree.now.headers }
     requires place { i < length planned.now.plan.now.order.items }
     requires header { number_in_place planned.now.tree.now.headers l ≡ number_in_place planned.now.plan.now.order.items i }
-    requires visited { AreVisitedTo planned.now.graph.now planned.now.tree.now (by_edge planned.now.weights.now) planned.now.plan.now.order.items i visits.now }
-    ensures { AnswersBy (λ x. x) result (AreRestsFound planned.now.graph.now planned.now.tree.now (by_edge planned.now.weights.now) planned.now.plan.now l) }
+    requires visited { AreVisitedTo planned.now.graph.now planned.now.tree.now (by_edge planned.now.weights.now)
+        planned.now.plan.now.order.items i visits.now }
+    ensures { AnswersBy (λ x. x) result (AreRestsFound planned.now.graph.now planned.now.tree.now (by_edge planned.now.weights.now)
+        planned.now.plan.now l) }
 {
     let mut rests = Rests {
         steps: body_places(alloc, planned.tree.body(l), planned.plan)?,
@@ -88,7 +90,8 @@ pub fn iteration_of(
     requires within { l < length planned.now.tree.now.headers }
     requires place { i < length planned.now.plan.now.order.items }
     requires header { number_in_place planned.now.tree.now.headers l ≡ number_in_place planned.now.plan.now.order.items i }
-    requires visited { AreVisitedTo planned.now.graph.now planned.now.tree.now (by_edge planned.now.weights.now) planned.now.plan.now.order.items i visits.now }
+    requires visited { AreVisitedTo planned.now.graph.now planned.now.tree.now (by_edge planned.now.weights.now)
+        planned.now.plan.now.order.items i visits.now }
     ensures { AnswersBy (λ x. x) result (IsIterationFound planned.now.graph.now planned.now.tree.now (by_edge planned.now.weights.now) l) }
 {
     let rests = rests_of(alloc, planned, visits, l, i)?;

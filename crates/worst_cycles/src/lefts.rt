@@ -52,8 +52,14 @@ fn raise_lefts(plan: &Plan, rests: &Rests, header: usize, iteration: u64, left: 
     requires small { (k : ℕ) → k < length left.old.items → number_in_place left.old.items k ≤ 2 ^ 48 }
     ensures size { length left.new.items ≡ length left.old.items }
     ensures higher { (k : ℕ) → number_in_place left.old.items k ≤ number_in_place left.new.items k }
-    ensures over { (m b : ℕ) → m < length rests.now.steps.items → rest_in rests.now.found.items m ≡ Some b → number_in_place plan.now.order.items (number_in_place rests.now.steps.items m) ≢ header → b + number_in_place left.old.items header ≤ number_in_place left.new.items (number_in_place plan.now.order.items (number_in_place rests.now.steps.items m)) + iteration }
-    ensures either { (k : ℕ) → (number_in_place left.new.items k ≡ number_in_place left.old.items k) ⊎ ((m : ℕ) × (b : ℕ) × (m < length rests.now.steps.items) × (number_in_place plan.now.order.items (number_in_place rests.now.steps.items m) ≡ k) × (k ≢ header) × (rest_in rests.now.found.items m ≡ Some b) × (number_in_place left.new.items k + iteration ≡ b + number_in_place left.old.items header)) }
+    ensures over { (m b : ℕ) → m < length rests.now.steps.items → rest_in rests.now.found.items m ≡ Some b →
+        number_in_place plan.now.order.items (number_in_place rests.now.steps.items m) ≢ header →
+        b + number_in_place left.old.items header ≤ number_in_place left.new.items
+        (number_in_place plan.now.order.items (number_in_place rests.now.steps.items m)) + iteration }
+    ensures either { (k : ℕ) → (number_in_place left.new.items k ≡ number_in_place left.old.items k) ⊎
+        ((m : ℕ) × (b : ℕ) × (m < length rests.now.steps.items) × (number_in_place plan.now.order.items
+        (number_in_place rests.now.steps.items m) ≡ k) × (k ≢ header) × (rest_in rests.now.found.items m ≡ Some b) ×
+        (number_in_place left.new.items k + iteration ≡ b + number_in_place left.old.items header)) }
 {
     let whole = left[header];
     for m in 0..rests.steps.len() {
@@ -80,7 +86,8 @@ fn plain_lefts(alloc: Global, visits: &[Visit]) -> Result<Vec<u64>, NoMemory>
 /// outermost inwards.
 pub fn lefts_of(alloc: Global, visited: &VisitedGraph<'_>) -> Result<Vec<u64>, Stop>
     requires visited { IsVisitedGraph visited.now }
-    ensures { AnswersBy (λ left. left.items) result (AreLeftsFound visited.now.planned.graph.now visited.now.planned.tree.now (by_edge visited.now.planned.weights.now)) }
+    ensures { AnswersBy (λ left. left.items) result (AreLeftsFound visited.now.planned.graph.now visited.now.planned.tree.now
+        (by_edge visited.now.planned.weights.now)) }
 {
     let plan = visited.planned.plan;
     let mut left = plain_lefts(alloc, visited.visits)?;

@@ -32,7 +32,15 @@ impl Model for WorstNumbers {
 impl WorstNumbers {
     pub(crate) fn from_parts(worst: Vec<u64>, iteration: Vec<u64>, parts: LeftParts) -> WorstNumbers
         requires some { 0 < length worst.items }
-        ensures { result ≡ record { worst = worst.items; iteration = iteration.items; left = parts.left.items; context = parts.context.items; slacks = parts.slacks.items; rests = parts.rests.items } }
+        ensures { result ≡ record {
+          worst = worst.items;
+          iteration = iteration.items;
+          left = parts.left.items;
+          context =
+              parts.context.items;
+          slacks = parts.slacks.items;
+          rests = parts.rests.items;
+        } }
     {
         WorstNumbers {
             worst,

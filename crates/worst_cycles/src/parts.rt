@@ -25,7 +25,8 @@ pub struct LeftParts {
 /// What is left of a program whose worst cycles are in range, once all its nodes are visited.
 pub fn parts_of(alloc: Global, visited: &VisitedGraph<'_>) -> Result<LeftParts, Stop>
     requires visited { IsVisitedGraph visited.now }
-    ensures { AnswersBy (λ parts. parts) result (ArePartsFound visited.now.planned.graph.now visited.now.planned.tree.now (by_edge visited.now.planned.weights.now)) }
+    ensures { AnswersBy (λ parts. parts) result (ArePartsFound visited.now.planned.graph.now visited.now.planned.tree.now
+        (by_edge visited.now.planned.weights.now)) }
 {
     let left = lefts_of(alloc, visited)?;
     let around = turns_around(alloc, visited)?;

@@ -38,8 +38,10 @@ fn turns_at(
     requires planned { IsPlannedGraph planned.now }
     requires visits { AreVisits planned.now.graph.now visits.now }
     requires place { i < length planned.now.plan.now.order.items }
-    requires visited { AreVisitedTo planned.now.graph.now planned.now.tree.now (by_edge planned.now.weights.now) planned.now.plan.now.order.items i visits.now }
-    ensures { AnswersBy (λ x. x) result (AreTurnsFound planned.now.graph.now planned.now.tree.now (by_edge planned.now.weights.now) (number_in_place planned.now.plan.now.order.items i)) }
+    requires visited { AreVisitedTo planned.now.graph.now planned.now.tree.now (by_edge planned.now.weights.now)
+        planned.now.plan.now.order.items i visits.now }
+    ensures { AnswersBy (λ x. x) result (AreTurnsFound planned.now.graph.now planned.now.tree.now (by_edge planned.now.weights.now)
+        (number_in_place planned.now.plan.now.order.items i)) }
 {
     let Some(l) = planned.plan.headed[planned.plan.order[i]] else {
         return Ok((0, 0));
@@ -61,8 +63,10 @@ fn visit_node(
     requires planned { IsPlannedGraph planned.now }
     requires visits { AreVisits planned.now.graph.now visits.now }
     requires place { i < length planned.now.plan.now.order.items }
-    requires visited { AreVisitedTo planned.now.graph.now planned.now.tree.now (by_edge planned.now.weights.now) planned.now.plan.now.order.items i visits.now }
-    ensures { AnswersBy (λ x. x) result (IsVisitFound planned.now.graph.now planned.now.tree.now (by_edge planned.now.weights.now) (number_in_place planned.now.plan.now.order.items i)) }
+    requires visited { AreVisitedTo planned.now.graph.now planned.now.tree.now (by_edge planned.now.weights.now)
+        planned.now.plan.now.order.items i visits.now }
+    ensures { AnswersBy (λ x. x) result (IsVisitFound planned.now.graph.now planned.now.tree.now (by_edge planned.now.weights.now)
+        (number_in_place planned.now.plan.now.order.items i)) }
 {
     let (turns, iteration) = turns_at(alloc, planned, visits, i)?;
     let plain = plain_at_node(planned, visits, planned.plan.order[i]);
@@ -79,7 +83,8 @@ fn visit_node(
 /// By node, what is found there.
 pub fn visit_nodes(alloc: Global, planned: &PlannedGraph<'_>) -> Result<Vec<Visit>, Stop>
     requires planned { IsPlannedGraph planned.now }
-    ensures { AnswersBy (λ visits. visits.items) result (AreVisitsFound planned.now.graph.now planned.now.tree.now (by_edge planned.now.weights.now)) }
+    ensures { AnswersBy (λ visits. visits.items) result (AreVisitsFound planned.now.graph.now planned.now.tree.now
+        (by_edge planned.now.weights.now)) }
 {
     let unvisited = Visit {
         plain: 0,

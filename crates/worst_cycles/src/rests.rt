@@ -90,7 +90,10 @@ fn rest_over(
     requires rests { AreRests rests.now }
     requires within { l < length planned.now.tree.now.headers }
     requires edge { e < length planned.now.graph.now.code.edges }
-    ensures rest { (n : Numbers) → AreSolvedBy planned.now.graph.now planned.now.tree.now (by_edge planned.now.weights.now) n → IsEdgeKnown planned.now.graph.now planned.now.tree.now planned.now.plan.now visits.now n e → IsRestKnown planned.now.graph.now planned.now.tree.now planned.now.plan.now rests.now n l e → IsRestFor planned.now.graph.now planned.now.tree.now (by_edge planned.now.weights.now) n l e result }
+    ensures rest { (n : Numbers) → AreSolvedBy planned.now.graph.now planned.now.tree.now (by_edge planned.now.weights.now) n →
+        IsEdgeKnown planned.now.graph.now planned.now.tree.now planned.now.plan.now visits.now n e →
+        IsRestKnown planned.now.graph.now planned.now.tree.now planned.now.plan.now rests.now n l e →
+        IsRestFor planned.now.graph.now planned.now.tree.now (by_edge planned.now.weights.now) n l e result }
     ensures small { (b : ℕ) → result ≡ Some b → b ≤ 2 ^ 51 }
 {
     match planned.tree.back_loop(e) {
@@ -132,7 +135,11 @@ pub fn rest_at_node(
     requires within { l < length planned.now.tree.now.headers }
     requires node { k < length planned.now.graph.now.code.nodes }
     requires inside { (loops planned.now.graph.now planned.now.tree.now).inside l (slice_index planned.now.graph.now.code.nodes k) ≡ true }
-    ensures { (n : Numbers) → AreSolvedBy planned.now.graph.now planned.now.tree.now (by_edge planned.now.weights.now) n → AreKnownAt planned.now.graph.now planned.now.tree.now planned.now.plan.now visits.now n (slice_index planned.now.graph.now.code.nodes k) → AreRestsKnownAt planned.now.graph.now planned.now.tree.now planned.now.plan.now rests.now n l (slice_index planned.now.graph.now.code.nodes k) → result ≡ n.closing l (slice_index planned.now.graph.now.code.nodes k) }
+    ensures { (n : Numbers) → AreSolvedBy planned.now.graph.now planned.now.tree.now (by_edge planned.now.weights.now) n →
+        AreKnownAt planned.now.graph.now planned.now.tree.now planned.now.plan.now visits.now n
+        (slice_index planned.now.graph.now.code.nodes k) → AreRestsKnownAt planned.now.graph.now planned.now.tree.now planned.now.plan.now
+        rests.now n l (slice_index planned.now.graph.now.code.nodes k) → result ≡ n.closing l
+        (slice_index planned.now.graph.now.code.nodes k) }
 {
     let (first, end) = planned.graph.edges_of(k);
     let mut most = None;

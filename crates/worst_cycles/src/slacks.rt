@@ -22,7 +22,10 @@ fn slack_over(visited: &VisitedGraph<'_>, left: &[u64], e: usize, to: usize) -> 
     requires edge { e < length visited.now.planned.graph.now.code.edges }
     requires node { to < length visited.now.planned.graph.now.code.nodes }
     requires leads { (graph_seen visited.now.planned.graph.now).target e ≡ slice_get visited.now.planned.graph.now.code.nodes to }
-    ensures { (n : Numbers) → AreSolvedBy visited.now.planned.graph.now visited.now.planned.tree.now (by_edge visited.now.planned.weights.now) n → result ≡ slack (graph_seen visited.now.planned.graph.now) (loops visited.now.planned.graph.now visited.now.planned.tree.now) n (cost (graph_seen visited.now.planned.graph.now) n (by_edge visited.now.planned.weights.now)) e }
+    ensures { (n : Numbers) → AreSolvedBy visited.now.planned.graph.now visited.now.planned.tree.now
+        (by_edge visited.now.planned.weights.now) n → result ≡ slack (graph_seen visited.now.planned.graph.now)
+        (loops visited.now.planned.graph.now visited.now.planned.tree.now) n (cost (graph_seen visited.now.planned.graph.now) n
+        (by_edge visited.now.planned.weights.now)) e }
 {
     let planned = &visited.planned;
     let visits = visited.visits;
@@ -42,7 +45,8 @@ pub fn slacks_of(
 ) -> Result<Vec<u64>, NoMemory>
     requires visited { IsVisitedGraph visited.now }
     requires left { AreLefts visited.now.planned.graph.now visited.now.planned.tree.now (by_edge visited.now.planned.weights.now) left.now }
-    ensures { IfOk result (λ slacks. AreSlacks visited.now.planned.graph.now visited.now.planned.tree.now (by_edge visited.now.planned.weights.now) slacks.items) }
+    ensures { IfOk result (λ slacks. AreSlacks visited.now.planned.graph.now visited.now.planned.tree.now
+        (by_edge visited.now.planned.weights.now) slacks.items) }
 {
     let mut slacks = Vec::new(alloc);
     for e in 0..visited.planned.graph.edge_count() {
@@ -55,7 +59,9 @@ fn slack_of(visited: &VisitedGraph<'_>, left: &[u64], e: usize) -> u64
     requires visited { IsVisitedGraph visited.now }
     requires left { AreLefts visited.now.planned.graph.now visited.now.planned.tree.now (by_edge visited.now.planned.weights.now) left.now }
     requires edge { e < length visited.now.planned.graph.now.code.edges }
-    ensures { (n : Numbers) → AreSolvedBy visited.now.planned.graph.now visited.now.planned.tree.now (by_edge visited.now.planned.weights.now) n → result ≡ slack_at (graph_seen visited.now.planned.graph.now) (loops visited.now.planned.graph.now visited.now.planned.tree.now) (by_edge visited.now.planned.weights.now) n e }
+    ensures { (n : Numbers) → AreSolvedBy visited.now.planned.graph.now visited.now.planned.tree.now
+        (by_edge visited.now.planned.weights.now) n → result ≡ slack_at (graph_seen visited.now.planned.graph.now)
+        (loops visited.now.planned.graph.now visited.now.planned.tree.now) (by_edge visited.now.planned.weights.now) n e }
 {
     match visited.planned.graph.target(e) {
         Some(to) => slack_over(visited, left, e, to),
@@ -74,10 +80,14 @@ fn rest_of(
 ) -> u64
     requires visited { IsVisitedGraph visited.now }
     requires left { AreLefts visited.now.planned.graph.now visited.now.planned.tree.now (by_edge visited.now.planned.weights.now) left.now }
-    requires around { AreTurnsRound visited.now.planned.graph.now visited.now.planned.tree.now (by_edge visited.now.planned.weights.now) around.now }
-    requires context { AreContexts visited.now.planned.graph.now visited.now.planned.tree.now (by_edge visited.now.planned.weights.now) context.now }
+    requires around { AreTurnsRound visited.now.planned.graph.now visited.now.planned.tree.now (by_edge visited.now.planned.weights.now)
+        around.now }
+    requires context { AreContexts visited.now.planned.graph.now visited.now.planned.tree.now (by_edge visited.now.planned.weights.now)
+        context.now }
     requires edge { e < length visited.now.planned.graph.now.code.edges }
-    ensures { (n : Numbers) → AreSolvedBy visited.now.planned.graph.now visited.now.planned.tree.now (by_edge visited.now.planned.weights.now) n → result ≡ rest_at (graph_seen visited.now.planned.graph.now) (loops visited.now.planned.graph.now visited.now.planned.tree.now) n e }
+    ensures { (n : Numbers) → AreSolvedBy visited.now.planned.graph.now visited.now.planned.tree.now
+        (by_edge visited.now.planned.weights.now) n → result ≡ rest_at (graph_seen visited.now.planned.graph.now)
+        (loops visited.now.planned.graph.now visited.now.planned.tree.now) n e }
 {
     let graph = visited.planned.graph;
     match graph.target(e) {
@@ -96,9 +106,12 @@ pub fn rests_behind(
 ) -> Result<Vec<u64>, NoMemory>
     requires visited { IsVisitedGraph visited.now }
     requires left { AreLefts visited.now.planned.graph.now visited.now.planned.tree.now (by_edge visited.now.planned.weights.now) left.now }
-    requires around { AreTurnsRound visited.now.planned.graph.now visited.now.planned.tree.now (by_edge visited.now.planned.weights.now) around.now }
-    requires context { AreContexts visited.now.planned.graph.now visited.now.planned.tree.now (by_edge visited.now.planned.weights.now) context.now }
-    ensures { IfOk result (λ rests. AreRestsBehind visited.now.planned.graph.now visited.now.planned.tree.now (by_edge visited.now.planned.weights.now) rests.items) }
+    requires around { AreTurnsRound visited.now.planned.graph.now visited.now.planned.tree.now (by_edge visited.now.planned.weights.now)
+        around.now }
+    requires context { AreContexts visited.now.planned.graph.now visited.now.planned.tree.now (by_edge visited.now.planned.weights.now)
+        context.now }
+    ensures { IfOk result (λ rests. AreRestsBehind visited.now.planned.graph.now visited.now.planned.tree.now
+        (by_edge visited.now.planned.weights.now) rests.items) }
 {
     let mut rests = Vec::new(alloc);
     for e in 0..visited.planned.graph.edge_count() {

@@ -27,7 +27,9 @@ fn called(planned: &PlannedGraph<'_>, visits: &[Visit], e: usize) -> u64
     requires planned { IsPlannedGraph planned.now }
     requires visits { AreVisits planned.now.graph.now visits.now }
     requires edge { e < length planned.now.graph.now.code.edges }
-    ensures some { (f : ℕ) → (graph_seen planned.now.graph.now).callee e ≡ Some f → result ≡ (visit_at visits.now (number_in_place planned.now.plan.now.entries.items f)).plain + (visit_at visits.now (number_in_place planned.now.plan.now.entries.items f)).turns }
+    ensures some { (f : ℕ) → (graph_seen planned.now.graph.now).callee e ≡ Some f →
+        result ≡ (visit_at visits.now (number_in_place planned.now.plan.now.entries.items f)).plain +
+        (visit_at visits.now (number_in_place planned.now.plan.now.entries.items f)).turns }
     ensures none { (graph_seen planned.now.graph.now).callee e ≡ None → result ≡ 0 }
     ensures small { result ≤ 2 ^ 49 }
 {
@@ -45,7 +47,8 @@ pub fn cost_of(planned: &PlannedGraph<'_>, visits: &[Visit], e: usize) -> u64
     requires planned { IsPlannedGraph planned.now }
     requires visits { AreVisits planned.now.graph.now visits.now }
     requires edge { e < length planned.now.graph.now.code.edges }
-    ensures cost { (n : Numbers) → IsCallKnown planned.now.graph.now planned.now.plan.now visits.now n e → result ≡ cost (graph_seen planned.now.graph.now) n (by_edge planned.now.weights.now) e }
+    ensures cost { (n : Numbers) → IsCallKnown planned.now.graph.now planned.now.plan.now visits.now n e →
+        result ≡ cost (graph_seen planned.now.graph.now) n (by_edge planned.now.weights.now) e }
     ensures small { result ≤ 2 ^ 50 }
 {
     u64::from(*planned.weights.get(e)) + called(planned, visits, e)
@@ -72,7 +75,9 @@ fn over(planned: &PlannedGraph<'_>, visits: &[Visit], e: usize) -> u64
     requires planned { IsPlannedGraph planned.now }
     requires visits { AreVisits planned.now.graph.now visits.now }
     requires edge { e < length planned.now.graph.now.code.edges }
-    ensures over { (n : Numbers) → AreSolvedBy planned.now.graph.now planned.now.tree.now (by_edge planned.now.weights.now) n → IsEdgeKnown planned.now.graph.now planned.now.tree.now planned.now.plan.now visits.now n e → IsPlainCostOver planned.now.graph.now planned.now.tree.now (by_edge planned.now.weights.now) n e result }
+    ensures over { (n : Numbers) → AreSolvedBy planned.now.graph.now planned.now.tree.now (by_edge planned.now.weights.now) n →
+        IsEdgeKnown planned.now.graph.now planned.now.tree.now planned.now.plan.now visits.now n e →
+        IsPlainCostOver planned.now.graph.now planned.now.tree.now (by_edge planned.now.weights.now) n e result }
     ensures small { result ≤ 2 ^ 51 }
 {
     match planned.tree.back_loop(e) {
@@ -86,7 +91,9 @@ pub fn plain_at_node(planned: &PlannedGraph<'_>, visits: &[Visit], k: usize) -> 
     requires planned { IsPlannedGraph planned.now }
     requires visits { AreVisits planned.now.graph.now visits.now }
     requires node { k < length planned.now.graph.now.code.nodes }
-    ensures { (n : Numbers) → AreSolvedBy planned.now.graph.now planned.now.tree.now (by_edge planned.now.weights.now) n → AreKnownAt planned.now.graph.now planned.now.tree.now planned.now.plan.now visits.now n (slice_index planned.now.graph.now.code.nodes k) → result ≡ n.plain (slice_index planned.now.graph.now.code.nodes k) }
+    ensures { (n : Numbers) → AreSolvedBy planned.now.graph.now planned.now.tree.now (by_edge planned.now.weights.now) n →
+        AreKnownAt planned.now.graph.now planned.now.tree.now planned.now.plan.now visits.now n
+        (slice_index planned.now.graph.now.code.nodes k) → result ≡ n.plain (slice_index planned.now.graph.now.code.nodes k) }
 {
     let (first, end) = planned.graph.edges_of(k);
     let mut most = 0;

@@ -1,4 +1,4 @@
--- A program with what is counted along a walk, and lines as they are added.
+-- Scaffold: a program with what is counted along a walk, and lines as they are added.
 use Rattle.std.specs.Prelude.{◌≡◌, ℕ, ◌<◌, Bool, List, length}
 use Rattle.std.specs.List.{All, Contains}
 use Rattle.cost_theory.specs.Graph.{Graph, Loops}

@@ -83,7 +83,8 @@ pub record AreLines (file : List ℕ) (g : Graph) (l : Loops) (w : ℕ → ℕ) 
   pub walked : AreWalks g l course.walks
   pub takes : total w (course.walks.whole 0) ≡ worst
   pub innermost : (e : ℕ) → e < g.edges → IsInnermost l (g.source e) (course.inner e)
-  pub functions : (f : ℕ) → f < g.functions → 0 < calls g course f → (line : Line) × Contains lines line × IsFunctionLine file g w course f line
+  pub functions : (f : ℕ) → f < g.functions → 0 < calls g course f → (line : Line) × Contains lines line ×
+      IsFunctionLine file g w course f line
   pub loops : (k : ℕ) → k < l.loops → 0 < entries g l course k → (line : Line) × Contains lines line × IsLoopLine file g l w course k line
   pub only_these : All (IsLine file g l w course) lines
   pub in_order : (i : ℕ) (a b : Line) → slice_get lines i ≡ Some a → slice_get lines (i + 1) ≡ Some b → IsBefore a b

@@ -49,7 +49,8 @@ fn function_line(alloc: Global, walked: &Walked<'_, '_>, f: usize) -> Result<Lin
     requires counts { HasCounts walked.now }
     requires within { f < length walked.now.graph.now.code.functions }
     requires called { 0 < number_in_place walked.now.counts.now.calls.items f }
-    ensures { IfOk result (λ line. (w : ℕ → ℕ) (worst : ℕ) (is : IsWalkedBy walked.now w worst) → IsFunctionLine walked.now.names.now.file (graph_seen walked.now.graph.now) w (course_of walked.now w worst is) f line) }
+    ensures { IfOk result (λ line. (w : ℕ → ℕ) (worst : ℕ) (is : IsWalkedBy walked.now w worst) →
+        IsFunctionLine walked.now.names.now.file (graph_seen walked.now.graph.now) w (course_of walked.now w worst is) f line) }
 {
     let calls = number_at(&walked.counts.calls, f);
     let at = walked.graph.node(walked.graph.entry_node(f));
@@ -71,7 +72,9 @@ fn loop_line(alloc: Global, walked: &Walked<'_, '_>, l: usize) -> Result<Line, N
     requires within { l < length walked.now.tree.now.headers }
     requires few { l < 4096 }
     requires entered { 0 < number_in_place walked.now.counts.now.entries.items l }
-    ensures { IfOk result (λ line. (w : ℕ → ℕ) (worst : ℕ) (is : IsWalkedBy walked.now w worst) → IsLoopLine walked.now.names.now.file (graph_seen walked.now.graph.now) (loops walked.now.graph.now walked.now.tree.now) w (course_of walked.now w worst is) l line) }
+    ensures { IfOk result (λ line. (w : ℕ → ℕ) (worst : ℕ) (is : IsWalkedBy walked.now w worst) →
+        IsLoopLine walked.now.names.now.file (graph_seen walked.now.graph.now) (loops walked.now.graph.now walked.now.tree.now) w
+        (course_of walked.now w worst is) l line) }
 {
     let number = l as u32 + 1;
     let entries = number_at(&walked.counts.entries, l);
@@ -149,7 +152,8 @@ fn push_loop(
 /// Adds a line for each loop that is entered.
 fn push_loops(alloc: Global, walked: &Walked<'_, '_>, lines: &mut Vec<Line>) -> Result<(), NoMemory>
     requires { HasCounts walked.now }
-    ensures { (n : ℕ) → AreLinesOf walked.now n 0 lines.old.items → OnOk result (AreLinesOf walked.now n (length walked.now.tree.now.headers) lines.new.items) }
+    ensures { (n : ℕ) → AreLinesOf walked.now n 0 lines.old.items → OnOk result
+        (AreLinesOf walked.now n (length walked.now.tree.now.headers) lines.new.items) }
 {
     for l in 0..walked.tree.loop_count() {
         push_loop(alloc, walked, l, lines)?;
@@ -165,7 +169,9 @@ pub fn walk_lines(
     worst: u64,
 ) -> Result<Option<Vec<Line>>, NoMemory>
     requires { HasCounts walked.now }
-    ensures { IfOk result (λ o. IfSome o (λ lines. (w : ℕ → ℕ) → IsWalkedBy walked.now w worst → AreLines walked.now.names.now.file (graph_seen walked.now.graph.now) (loops walked.now.graph.now walked.now.tree.now) w worst lines.items)) }
+    ensures { IfOk result (λ o. IfSome o (λ lines. (w : ℕ → ℕ) → IsWalkedBy walked.now w worst →
+        AreLines walked.now.names.now.file (graph_seen walked.now.graph.now) (loops walked.now.graph.now walked.now.tree.now) w worst
+        lines.items)) }
 {
     let mut lines = function_lines(alloc, walked)?;
     push_loops(alloc, walked, &mut lines)?;

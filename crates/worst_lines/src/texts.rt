@@ -71,7 +71,8 @@ fn push_place(text: &mut String, place: &Option<String>) -> Result<(), AllocErro
 // Adds how often it is called or entered, and its cycles.
 #[tactic(auto, unfolding(crate::specs::LineTexts::cycle_words))]
 fn push_cycles(text: &mut String, line: &Line) -> Result<(), AllocError>
-    ensures { OnOk result (string_bytes text.new ≡ string_bytes text.old ++ (times_words line.now.part ++ cycle_words line.now.own line.now.all)) }
+    ensures { OnOk result (string_bytes text.new ≡ string_bytes text.old ++ (times_words line.now.part ++ cycle_words line.now.own
+        line.now.all)) }
 {
     let times = TimesWords(line.part);
     let own = line.own;

@@ -11,20 +11,12 @@ ghost use Rattle.worst_walks.specs.Whole.{AreWorstOf};
 ghost use Rattle.worst_reports.specs.Explained.{AreLinesIfFound, IsExplainedProgram, AreExplained};
 
 use crate::explained::Explained;
-use answer_parts::check_unscaled;
-use code_graph::build_graph;
 use code_names::names_of;
 use elf_image::ImageView;
-use elf_view::read_image;
-use loop_file::{LoopNotes, read_loops};
-use loop_tree::build_loops;
-use machine_file::read_machine;
-use marked_images::starting_level;
-use power_model::Power;
+use program_sources::Sources;
 use scale_base::{NoMemory, Stop};
-use scaler::weights_of;
+use scaler::TimedProgram;
 use std::alloc::Global;
-use worst_cycles::worst;
 use worst_lines::{Line, Walked, walk_lines};
 use worst_walks::{Known, whole_cycles, worst_walk};
 
@@ -35,7 +27,10 @@ fn known_lines<'x>(
     known: &Known<'_>,
 ) -> Result<Option<Vec<Line>>, NoMemory>
     requires { IsKnown known.now }
-    ensures { (worst : ℕ) → slice_get known.now.worst.now.worst 0 ≡ Some worst → AreWorstOf (graph_seen known.now.graph.now) (loops known.now.graph.now known.now.tree.now) (by_edge known.now.weights.now) known.now.worst.now.worst → IfOk result (AreLinesIfFound view.now.file (graph_seen known.now.graph.now) (loops known.now.graph.now known.now.tree.now) (by_edge known.now.weights.now) worst) }
+    ensures { (worst : ℕ) → slice_get known.now.worst.now.worst 0 ≡ Some worst →
+        AreWorstOf (graph_seen known.now.graph.now) (loops known.now.graph.now known.now.tree.now) (by_edge known.now.weights.now)
+        known.now.worst.now.worst → IfOk result (AreLinesIfFound view.now.file (graph_seen known.now.graph.now)
+        (loops known.now.graph.now known.now.tree.now) (by_edge known.now.weights.now) worst) }
 {
     let Some(counts) = worst_walk(alloc, known)? else {
         return Ok(None);
@@ -55,28 +50,19 @@ fn known_lines<'x>(
 }
 
 /// Where the worst cycles of an image's program go, with the loops of its notes, or the first refusal of its code, of its loops or of its numbers.
-fn program_explained(
-    alloc: Global,
-    view: &ImageView<'_>,
-    power: &Power,
-    notes: &LoopNotes,
-) -> Result<Explained, Stop>
-    requires { IsPowerModel power.now }
-    ensures { AnswersBy (λ x. x) result (IsExplainedProgram power.now view.now notes.now) }
+fn program_explained(alloc: Global, sources: &Sources<'_>) -> Result<Explained, Stop>
+    requires { IsPowerModel sources.now.power }
+    ensures { AnswersBy (λ x. x) result (IsExplainedProgram sources.now.power sources.now.view sources.now.notes) }
 {
-    let graph = build_graph(alloc, view)?;
-    let tree = build_loops(alloc, &graph, notes)?;
-    let weights = weights_of(alloc, &graph, power)?;
-    let numbers = worst(alloc, &graph, &tree, &weights)?;
-    let total = numbers.total();
-    let _start = starting_level(power, total)?;
+    let timed = TimedProgram::of(alloc, sources)?;
+    let total = timed.worst.total();
     let known = Known {
-        graph: &graph,
-        tree: &tree,
-        weights: &weights,
-        worst: &numbers,
+        graph: &timed.graph,
+        tree: &timed.tree,
+        weights: &timed.weights,
+        worst: &timed.worst,
     };
-    let lines = known_lines(alloc, view, &known)?;
+    let lines = known_lines(alloc, &sources.view, &known)?;
     Ok(Explained {
         worst: total,
         lines,
@@ -91,9 +77,6 @@ fn program_explained(
 pub fn explain(alloc: Global, image: &[u8], machine: &[u8], loops: &[u8]) -> Result<Explained, Stop>
     ensures { AnswersBy (λ x. x) result (AreExplained image.now machine.now loops.now) }
 {
-    let power = read_machine(alloc, machine)?;
-    let view = read_image(alloc, image)?;
-    check_unscaled(view.keyed())?;
-    let notes = read_loops(alloc, loops, &view)?;
-    program_explained(alloc, &view, &power, &notes)
+    let sources = Sources::read(alloc, image, machine, loops)?;
+    program_explained(alloc, &sources)
 }

@@ -1,4 +1,4 @@
--- A program whose worst cycles are known.
+-- Scaffold: a program whose worst cycles are known.
 use Rattle.std.specs.Prelude.{◌≡◌, ℕ, Bool, List, length}
 use Rattle.flow_graph.specs.FlowGraph.{FlowGraph}
 use Rattle.loop_forest.specs.Tree.{LoopView, IsLoopTree}

@@ -1,4 +1,4 @@
--- The cycles of functions and of loops alone, as tallies.
+-- Scaffold: the cycles of functions and of loops alone, as tallies.
 use Rattle.std.specs.Prelude.{◌≡◌, ℕ, ◌+◌, ◌*◌, ◌<◌, List, length, Option}
 use Rattle.flow_graph.specs.FlowGraph.{FlowGraph, graph}
 use Rattle.loop_forest.specs.Tree.{LoopView, loops, IsInnermost}
@@ -33,4 +33,5 @@ pub record AreWhole (v : FlowGraph) (t : LoopView) (weights taken : List ℕ) (w
   pub wide_is : (e : ℕ) → e < length v.code.edges → number_in_place wide e ≡ by_edge weights e
   pub own_is : AreOwn v t taken wide own
   pub takes : worst ≡ sum_below (length wide) (λ e. number_in_place taken e * number_in_place wide e)
-  pub adds_up : sum_below (length own.functions.items) (number_in_place own.functions.items) + sum_below (length own.loops.items) (number_in_place own.loops.items) ≡ worst
+  pub adds_up : sum_below (length own.functions.items) (number_in_place own.functions.items) + sum_below (length own.loops.items)
+      (number_in_place own.loops.items) ≡ worst

@@ -1,4 +1,4 @@
--- Sums over lists, as passes over them find them.
+-- Scaffold: sums over lists, as passes over them find them.
 use Rattle.std.specs.Prelude.{◌≡◌, ℕ, ◌*◌, ◌<◌, List, length, slice_get, slice_index_or, Option, Some, None}
 use Rattle.cost_theory.specs.Graph.{sum_below, only, total}
 use Rattle.cost_theory.specs.Lists.{body_of}
@@ -13,7 +13,8 @@ key_at keys e = slice_index_or keys e None
 pub record IsTally (count : ℕ) (keys : List (Option ℕ)) (times costs table : List ℕ) : Type 0 where
   pub size : length table ≡ count
   pub each : (k : ℕ) → k < count →
-      number_in_place table k ≡ sum_below (length keys) (λ e. number_in_place times e * only (is_number k (key_at keys e)) (number_in_place costs e))
+      number_in_place table k ≡ sum_below (length keys) (λ e. number_in_place times e * only (is_number k (key_at keys e))
+      (number_in_place costs e))
 
 -- what edges cost that are taken so often
 abbrev pub taken_sum : List ℕ → (ℕ → ℕ) → ℕ

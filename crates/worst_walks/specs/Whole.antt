@@ -42,4 +42,5 @@ IsSourceKey v e o = (k : ℕ) × (o ≡ Some k) × (slice_get v.code.nodes k ≡
 
 -- the cycles of the edges that start in the body of loop k, each so often as a table says
 abbrev pub body_taken : FlowGraph → LoopView → (ℕ → ℕ) → List ℕ → List ℕ → ℕ → ℕ
-body_taken v t w table taken k = sum_below (length v.code.edges) (λ e. number_in_place taken e * only ((loops v t).inside k ((graph v).source e)) (listed_cost (graph v) w table e))
+body_taken v t w table taken k = sum_below (length v.code.edges) (λ e. number_in_place taken e * only
+    ((loops v t).inside k ((graph v).source e)) (listed_cost (graph v) w table e))

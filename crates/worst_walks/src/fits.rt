@@ -32,7 +32,8 @@ pub fn take_parts(
     requires turns { length parts.now.turns.items ≡ length tree.now.headers }
     requires calls { length calls.now ≡ length graph.now.code.functions }
     requires entries { length entries.now ≡ length tree.now.headers }
-    ensures { IfOk result (λ o. IfSome o (λ taken. AreTaken graph.now tree.now (bodies_of parts.now.paths.items) (bodies_of parts.now.turns.items) calls.now entries.now taken.items)) }
+    ensures { IfOk result (λ o. IfSome o (λ taken. AreTaken graph.now tree.now (bodies_of parts.now.paths.items)
+        (bodies_of parts.now.turns.items) calls.now entries.now taken.items)) }
 {
     let _nodes = graph.node_count();
     if !are_paths(graph, tree, &parts.paths) || !are_turns(graph, tree, &parts.turns) {

@@ -29,7 +29,8 @@ pub fn called_functions(alloc: Global, graph: &CodeGraph) -> Result<Vec<Option<u
 fn entered_loop(graph: &CodeGraph, tree: &LoopTree, e: usize) -> Option<usize>
     requires tree { (extent : ℕ → ℕ → Bool) × IsLoopTree graph.now extent tree.now }
     requires edge { e < length graph.now.code.edges }
-    ensures { (k : ℕ) → (result ≡ Some k) ↔ ((k < length tree.now.headers) × (enters (loops graph.now tree.now) k ((graph_seen graph.now).source e) ((graph_seen graph.now).target e) ≡ true)) }
+    ensures { (k : ℕ) → (result ≡ Some k) ↔ ((k < length tree.now.headers) × (enters (loops graph.now tree.now) k
+        ((graph_seen graph.now).source e) ((graph_seen graph.now).target e) ≡ true)) }
 {
     let _nodes = graph.node_count();
     let Some(to) = graph.target(e) else {
@@ -52,7 +53,9 @@ pub fn entered_loops(
 ) -> Result<Vec<Option<usize>>, NoMemory>
     requires tree { (extent : ℕ → ℕ → Bool) × IsLoopTree graph.now extent tree.now }
     ensures size { IfOk result (λ keys. length keys.items ≡ length graph.now.code.edges) }
-    ensures each { IfOk result (λ keys. (e : ℕ) → e < length graph.now.code.edges → (k : ℕ) → (key_at keys.items e ≡ Some k) ↔ ((k < length tree.now.headers) × (enters (loops graph.now tree.now) k ((graph_seen graph.now).source e) ((graph_seen graph.now).target e) ≡ true))) }
+    ensures each { IfOk result (λ keys. (e : ℕ) → e < length graph.now.code.edges → (k : ℕ) →
+        (key_at keys.items e ≡ Some k) ↔ ((k < length tree.now.headers) × (enters (loops graph.now tree.now) k
+        ((graph_seen graph.now).source e) ((graph_seen graph.now).target e) ≡ true))) }
 {
     let mut keys = Vec::new(alloc);
     for e in 0..graph.edge_count() {
@@ -69,7 +72,8 @@ pub fn begun_loops(
 ) -> Result<Vec<Option<usize>>, NoMemory>
     requires tree { (extent : ℕ → ℕ → Bool) × IsLoopTree graph.now extent tree.now }
     ensures size { IfOk result (λ keys. length keys.items ≡ length graph.now.code.functions) }
-    ensures each { IfOk result (λ keys. (f : ℕ) → f < length graph.now.code.functions → IsInnermost (loops graph.now tree.now) ((graph_seen graph.now).entry f) (key_at keys.items f)) }
+    ensures each { IfOk result (λ keys. (f : ℕ) → f < length graph.now.code.functions →
+        IsInnermost (loops graph.now tree.now) ((graph_seen graph.now).entry f) (key_at keys.items f)) }
 {
     let mut keys = Vec::new(alloc);
     for f in 0..graph.function_count() {
@@ -86,7 +90,8 @@ pub fn innermost_loops(
 ) -> Result<Vec<Option<usize>>, NoMemory>
     requires tree { (extent : ℕ → ℕ → Bool) × IsLoopTree graph.now extent tree.now }
     ensures size { IfOk result (λ keys. length keys.items ≡ length graph.now.code.edges) }
-    ensures each { IfOk result (λ keys. (e : ℕ) → e < length graph.now.code.edges → IsInnermost (loops graph.now tree.now) ((graph_seen graph.now).source e) (key_at keys.items e)) }
+    ensures each { IfOk result (λ keys. (e : ℕ) → e < length graph.now.code.edges →
+        IsInnermost (loops graph.now tree.now) ((graph_seen graph.now).source e) (key_at keys.items e)) }
 {
     let mut keys = Vec::new(alloc);
     for e in 0..graph.edge_count() {
@@ -103,7 +108,8 @@ pub fn outside_functions(
 ) -> Result<Vec<Option<usize>>, NoMemory>
     requires { length inner.now ≡ length graph.now.code.edges }
     ensures size { IfOk result (λ keys. length keys.items ≡ length graph.now.code.edges) }
-    ensures each { IfOk result (λ keys. (e : ℕ) → e < length graph.now.code.edges → key_at keys.items e ≡ outside_of ((graph_seen graph.now).owner ((graph_seen graph.now).source e)) (key_at inner.now e)) }
+    ensures each { IfOk result (λ keys. (e : ℕ) → e < length graph.now.code.edges →
+        key_at keys.items e ≡ outside_of ((graph_seen graph.now).owner ((graph_seen graph.now).source e)) (key_at inner.now e)) }
 {
     let mut keys = Vec::new(alloc);
     for e in 0..graph.edge_count() {

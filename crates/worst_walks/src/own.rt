@@ -58,7 +58,8 @@ pub fn takes(taken: &[u64], wide: &[u64], cycles: u64) -> bool
 
 /// Whether the own cycles of functions and loops add up to so many.
 pub fn add_up(functions: &[u64], loops: &[u64], cycles: u64) -> bool
-    ensures { result ≡ true → sum_below (length functions.now) (number_in_place functions.now) + sum_below (length loops.now) (number_in_place loops.now) ≡ cycles }
+    ensures { result ≡ true → sum_below (length functions.now) (number_in_place functions.now) + sum_below (length loops.now)
+        (number_in_place loops.now) ≡ cycles }
 {
     match table_sum(functions) {
         Some(one) => match table_sum(loops) {

@@ -89,7 +89,8 @@ fn is_last(graph: &CodeGraph, tree: &LoopTree, l: usize, e: usize, at: Option<us
 fn is_turn(graph: &CodeGraph, tree: &LoopTree, l: usize, turn: &[usize]) -> bool
     requires tree { (extent : ℕ → ℕ → Bool) × IsLoopTree graph.now extent tree.now }
     requires within { l < length tree.now.headers }
-    ensures { result ≡ true → IsClosing (graph_seen graph.now) (loops graph.now tree.now) l (Some ((loops graph.now tree.now).header l)) turn.now }
+    ensures { result ≡ true → IsClosing (graph_seen graph.now) (loops graph.now tree.now) l (Some ((loops graph.now tree.now).header l))
+        turn.now }
 {
     let mut at = Some(tree.header(l));
     for j in 0..turn.len() {
@@ -109,7 +110,9 @@ fn is_turn(graph: &CodeGraph, tree: &LoopTree, l: usize, turn: &[usize]) -> bool
 pub fn are_paths(graph: &CodeGraph, tree: &LoopTree, paths: &[Vec<usize>]) -> bool
     requires tree { (extent : ℕ → ℕ → Bool) × IsLoopTree graph.now extent tree.now }
     requires size { length paths.now ≡ length graph.now.code.functions }
-    ensures { result ≡ true → (f : ℕ) → f < length graph.now.code.functions → IsPlainPath (graph_seen graph.now) (loops graph.now tree.now) (Some ((graph_seen graph.now).entry f)) (body_of (bodies_of paths.now) f) }
+    ensures { result ≡ true → (f : ℕ) → f < length graph.now.code.functions →
+        IsPlainPath (graph_seen graph.now) (loops graph.now tree.now) (Some ((graph_seen graph.now).entry f))
+        (body_of (bodies_of paths.now) f) }
 {
     for f in 0..paths.len() {
         if !is_path(graph, tree, graph.entry_node(f), &paths[f]) {
@@ -123,7 +126,8 @@ pub fn are_paths(graph: &CodeGraph, tree: &LoopTree, paths: &[Vec<usize>]) -> bo
 pub fn are_turns(graph: &CodeGraph, tree: &LoopTree, turns: &[Vec<usize>]) -> bool
     requires tree { (extent : ℕ → ℕ → Bool) × IsLoopTree graph.now extent tree.now }
     requires size { length turns.now ≡ length tree.now.headers }
-    ensures { result ≡ true → (k : ℕ) → k < length tree.now.headers → IsClosing (graph_seen graph.now) (loops graph.now tree.now) k (Some ((loops graph.now tree.now).header k)) (body_of (bodies_of turns.now) k) }
+    ensures { result ≡ true → (k : ℕ) → k < length tree.now.headers → IsClosing (graph_seen graph.now) (loops graph.now tree.now) k
+        (Some ((loops graph.now tree.now).header k)) (body_of (bodies_of turns.now) k) }
 {
     for l in 0..turns.len() {
         if !is_turn(graph, tree, l, &turns[l]) {

@@ -30,7 +30,8 @@ pub fn all_turns(
 ) -> Result<Option<Vec<u64>>, NoMemory>
     requires { length bounds.now ≡ length entries.now }
     ensures size { IfOk result (λ o. IfSome o (λ turns. length turns.items ≡ length entries.now)) }
-    ensures each { IfOk result (λ o. IfSome o (λ turns. (k : ℕ) → k < length entries.now → number_in_place turns.items k ≡ number_in_place entries.now k * slice_index bounds.now k)) }
+    ensures each { IfOk result (λ o. IfSome o (λ turns. (k : ℕ) → k < length entries.now →
+        number_in_place turns.items k ≡ number_in_place entries.now k * slice_index bounds.now k)) }
 {
     let mut turns = Vec::new(alloc);
     for l in 0..entries.len() {
@@ -45,7 +46,8 @@ pub fn all_turns(
 /// The cycles of edges that are taken so often.
 pub fn taken_cycles(taken: &[u64], weights: &[u64]) -> Option<u64>
     requires { length taken.now ≡ length weights.now }
-    ensures { IfSome result (λ cycles. cycles ≡ sum_below (length weights.now) (λ e. number_in_place taken.now e * number_in_place weights.now e)) }
+    ensures { IfSome result (λ cycles. cycles ≡ sum_below (length weights.now)
+        (λ e. number_in_place taken.now e * number_in_place weights.now e)) }
 {
     let mut cycles: u64 = 0;
     for e in 0..weights.len() {
@@ -78,7 +80,8 @@ pub fn table_sum(table: &[u64]) -> Option<u64>
 pub fn are_sums(one: &[u64], other: &[u64], sums: &[u64]) -> bool
     requires one { length one.now ≡ length sums.now }
     requires other { length other.now ≡ length sums.now }
-    ensures { result ≡ true → (k : ℕ) → k < length sums.now → number_in_place sums.now k ≡ number_in_place one.now k + number_in_place other.now k }
+    ensures { result ≡ true → (k : ℕ) → k < length sums.now → number_in_place sums.now k ≡ number_in_place one.now k + number_in_place
+        other.now k }
 {
     for k in 0..sums.len() {
         match one[k].checked_add(other[k]) {

@@ -25,7 +25,8 @@ fn take_list(edges: &[usize], times: u64, taken: &mut Vec<u64>) -> bool
 pub fn take_lists(lists: &[Vec<usize>], times: &[u64], taken: &mut Vec<u64>) -> bool
     requires { length times.now ≡ length lists.now }
     ensures size { length taken.new.items ≡ length taken.old.items }
-    ensures taken { result ≡ true → (c : ℕ → ℕ) → taken_sum taken.new.items c ≡ taken_sum taken.old.items c + lists_sum (length lists.now) (bodies_of lists.now) times.now c }
+    ensures taken { result ≡ true → (c : ℕ → ℕ) → taken_sum taken.new.items c ≡ taken_sum taken.old.items c + lists_sum (length lists.now)
+        (bodies_of lists.now) times.now c }
 {
     for l in 0..lists.len() {
         if !take_list(&lists[l], times[l], taken) {

@@ -12,7 +12,8 @@ use std::alloc::Global;
 pub fn add(table: &mut Vec<u64>, i: usize, times: u64, cost: u64) -> bool
     ensures size { length table.new.items ≡ length table.old.items }
     ensures within { result ≡ true → i < length table.old.items }
-    ensures added { result ≡ true → (k : ℕ) → number_in_place table.new.items k ≡ number_in_place table.old.items k + times * only (nat_eq i k) cost }
+    ensures added { result ≡ true → (k : ℕ) → number_in_place table.new.items k ≡ number_in_place table.old.items k + times * only
+        (nat_eq i k) cost }
 {
     if i >= table.len() {
         return false;

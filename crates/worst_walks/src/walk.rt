@@ -83,7 +83,8 @@ pub fn count_walk(
     requires turns { length proposal.parts.turns.items ≡ length tree.now.headers }
     requires calls { length proposal.calls.items ≡ length graph.now.code.functions }
     requires entries { length proposal.entries.items ≡ length tree.now.headers }
-    ensures walk { IfOk result (λ o. IfSome o (λ x. IsWorstWalk (graph_seen graph.now) (loops graph.now tree.now) (by_edge weights.now) proposal.worst x)) }
+    ensures walk { IfOk result (λ o. IfSome o (λ x. IsWorstWalk (graph_seen graph.now) (loops graph.now tree.now) (by_edge weights.now)
+        proposal.worst x)) }
     ensures sizes { IfOk result (λ o. IfSome o (λ x. HasCountSizes graph.now tree.now x)) }
 {
     let _nodes = graph.node_count();

@@ -32,7 +32,8 @@ pub struct WholeCycles {
 fn called_cycles(known: &Known<'_>, e: usize) -> Option<u64>
     requires known { IsKnown known.now }
     requires edge { e < length known.now.graph.now.code.edges }
-    ensures { IfSome result (λ cycles. cycles ≡ listed_cost (graph_seen known.now.graph.now) (by_edge known.now.weights.now) known.now.worst.now.worst e) }
+    ensures { IfSome result (λ cycles. cycles ≡ listed_cost (graph_seen known.now.graph.now) (by_edge known.now.weights.now)
+        known.now.worst.now.worst e) }
 {
     let weight = u64::from(*known.weights.get(e));
     let Some(f) = known.graph.callee(e) else {
@@ -48,7 +49,9 @@ fn called_cycles(known: &Known<'_>, e: usize) -> Option<u64>
 fn edge_cycles(alloc: Global, known: &Known<'_>) -> Result<Option<Vec<u64>>, NoMemory>
     requires { IsKnown known.now }
     ensures size { IfOk result (λ o. IfSome o (λ cycles. length cycles.items ≡ length known.now.graph.now.code.edges)) }
-    ensures each { IfOk result (λ o. IfSome o (λ cycles. (e : ℕ) → e < length known.now.graph.now.code.edges → number_in_place cycles.items e ≡ listed_cost (graph_seen known.now.graph.now) (by_edge known.now.weights.now) known.now.worst.now.worst e)) }
+    ensures each { IfOk result (λ o. IfSome o (λ cycles. (e : ℕ) → e < length known.now.graph.now.code.edges →
+        number_in_place cycles.items e ≡ listed_cost (graph_seen known.now.graph.now) (by_edge known.now.weights.now)
+        known.now.worst.now.worst e)) }
 {
     let mut cycles = Vec::new(alloc);
     for e in 0..known.graph.edge_count() {
@@ -92,7 +95,8 @@ fn sum_at(table: &[u64], places: &[usize]) -> Option<u64>
 /// By loop, the cycles of the nodes of its body.
 fn body_sums(alloc: Global, tree: &LoopTree, by_node: &[u64]) -> Result<Option<Vec<u64>>, NoMemory>
     ensures size { IfOk result (λ o. IfSome o (λ sums. length sums.items ≡ length tree.now.headers)) }
-    ensures each { IfOk result (λ o. IfSome o (λ sums. (k : ℕ) → k < length tree.now.headers → number_in_place sums.items k ≡ total (number_in_place by_node.now) (body_of tree.now.bodies k))) }
+    ensures each { IfOk result (λ o. IfSome o (λ sums. (k : ℕ) → k < length tree.now.headers →
+        number_in_place sums.items k ≡ total (number_in_place by_node.now) (body_of tree.now.bodies k))) }
 {
     let mut sums = Vec::new(alloc);
     for l in 0..tree.loop_count() {
@@ -112,7 +116,8 @@ fn function_sums(
 ) -> Result<Option<Vec<u64>>, NoMemory>
     requires { length worst.now.worst ≡ length calls.now }
     ensures size { IfOk result (λ o. IfSome o (λ sums. length sums.items ≡ length calls.now)) }
-    ensures each { IfOk result (λ o. IfSome o (λ sums. (f : ℕ) → f < length calls.now → number_in_place sums.items f ≡ number_in_place calls.now f * number_in_place worst.now.worst f)) }
+    ensures each { IfOk result (λ o. IfSome o (λ sums. (f : ℕ) → f < length calls.now →
+        number_in_place sums.items f ≡ number_in_place calls.now f * number_in_place worst.now.worst f)) }
 {
     let mut sums = Vec::new(alloc);
     for f in 0..calls.len() {
@@ -129,7 +134,9 @@ fn loop_sums(alloc: Global, known: &Known<'_>, taken: &[u64]) -> Result<Option<V
     requires known { IsKnown known.now }
     requires taken { length taken.now ≡ length known.now.graph.now.code.edges }
     ensures size { IfOk result (λ o. IfSome o (λ sums. length sums.items ≡ length known.now.tree.now.headers)) }
-    ensures each { IfOk result (λ o. IfSome o (λ sums. (k : ℕ) → k < length known.now.tree.now.headers → number_in_place sums.items k ≡ body_taken known.now.graph.now known.now.tree.now (by_edge known.now.weights.now) known.now.worst.now.worst taken.now k)) }
+    ensures each { IfOk result (λ o. IfSome o (λ sums. (k : ℕ) → k < length known.now.tree.now.headers →
+        number_in_place sums.items k ≡ body_taken known.now.graph.now known.now.tree.now (by_edge known.now.weights.now)
+        known.now.worst.now.worst taken.now k)) }
 {
     let _nodes = known.graph.node_count();
     let Some(costs) = edge_cycles(alloc, known)? else {
@@ -153,7 +160,12 @@ pub fn whole_cycles(
     requires taken { length counts.now.taken.items ≡ length known.now.graph.now.code.edges }
     requires calls { length counts.now.calls.items ≡ length known.now.graph.now.code.functions }
     ensures sizes { IfOk result (λ o. IfSome o (λ all. HasWholeSizes known.now.graph.now known.now.tree.now all)) }
-    ensures whole { (worst : ℕ) → slice_get known.now.worst.now.worst 0 ≡ Some worst → AreWorstOf (graph_seen known.now.graph.now) (loops known.now.graph.now known.now.tree.now) (by_edge known.now.weights.now) known.now.worst.now.worst → (walk : IsWorstWalk (graph_seen known.now.graph.now) (loops known.now.graph.now known.now.tree.now) (by_edge known.now.weights.now) worst counts.now) → IfOk result (λ o. IfSome o (λ all. AreWholeCycles (graph_seen known.now.graph.now) (loops known.now.graph.now known.now.tree.now) (by_edge known.now.weights.now) walk.walks counts.now all)) }
+    ensures whole { (worst : ℕ) → slice_get known.now.worst.now.worst 0 ≡ Some worst →
+        AreWorstOf (graph_seen known.now.graph.now) (loops known.now.graph.now known.now.tree.now) (by_edge known.now.weights.now)
+        known.now.worst.now.worst → (walk : IsWorstWalk (graph_seen known.now.graph.now) (loops known.now.graph.now known.now.tree.now)
+        (by_edge known.now.weights.now) worst counts.now) → IfOk result (λ o. IfSome o
+        (λ all. AreWholeCycles (graph_seen known.now.graph.now) (loops known.now.graph.now known.now.tree.now)
+        (by_edge known.now.weights.now) walk.walks counts.now all)) }
 {
     let _nodes = known.graph.node_count();
     let Some(functions) = function_sums(alloc, known.worst, &counts.calls)? else {

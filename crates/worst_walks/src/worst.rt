@@ -18,7 +18,9 @@ use std::alloc::Global;
 /// that one is found is tested, not proved.
 pub fn worst_walk(alloc: Global, known: &Known<'_>) -> Result<Option<WalkCounts>, NoMemory>
     requires { IsKnown known.now }
-    ensures walk { (worst : ℕ) → slice_get known.now.worst.now.worst 0 ≡ Some worst → IfOk result (λ o. IfSome o (λ x. IsWorstWalk (graph_seen known.now.graph.now) (loops known.now.graph.now known.now.tree.now) (by_edge known.now.weights.now) worst x)) }
+    ensures walk { (worst : ℕ) → slice_get known.now.worst.now.worst 0 ≡ Some worst →
+        IfOk result (λ o. IfSome o (λ x. IsWorstWalk (graph_seen known.now.graph.now) (loops known.now.graph.now known.now.tree.now)
+        (by_edge known.now.weights.now) worst x)) }
     ensures sizes { IfOk result (λ o. IfSome o (λ x. HasCountSizes known.now.graph.now known.now.tree.now x)) }
 {
     let parts = find_parts(alloc, known)?;

@@ -1,4 +1,4 @@
--- How great the numbers of an interval are, and intervals of registers as a list.
+-- Scaffold: how great the numbers of an interval are, and intervals of registers as a list.
 use Rattle.std.specs.Prelude.{ℕ, ◌≤◌, ◌<◌, ◌^◌, List, Option, Some, None, option_and_then, slice_get}
 use Rattle.bound_laws.specs.Values as values
 use Rattle.bound_laws.specs.Values.{Arc, Interval}

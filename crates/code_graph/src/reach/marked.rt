@@ -21,7 +21,8 @@ pub struct Marked {
 
 /// No word is reached, since the program begins at none.
 fn none_marked(alloc: Global, steps: &[Step]) -> Result<Marked, NoMemory>
-    ensures { IfOk result (λ m. (returns : List Bool) → AreReachMarks steps.now returns None m.marks.items m.functions.items m.numbers.items) }
+    ensures { IfOk result (λ m. (returns : List Bool) → AreReachMarks steps.now returns None m.marks.items m.functions.items
+        m.numbers.items) }
 {
     Ok(Marked {
         marks: vec![in alloc; Mark::Unreached; steps.len()]?,

@@ -103,10 +103,13 @@ fn reach(
 ) -> Result<(), NoMemory>
     requires within { k < length steps.now }
     requires room { length steps.now < 2 ^ 32 }
-    requires pass { IsMarkPass steps.now returning.now entry marking.old.marks.items marking.old.functions.items marking.old.numbers.items marking.old.queue.items }
+    requires pass { IsMarkPass steps.now returning.now entry marking.old.marks.items marking.old.functions.items marking.old.numbers.items
+        marking.old.queue.items }
     requires due { IsDue steps.now returning.now entry mark k }
-    ensures pass { OnOk result (IsMarkPass steps.now returning.now entry marking.new.marks.items marking.new.functions.items marking.new.numbers.items marking.new.queue.items) }
-    ensures grows { OnOk result (MarksGrow marking.old.marks.items marking.old.numbers.items marking.old.queue.items marking.new.marks.items marking.new.numbers.items marking.new.queue.items) }
+    ensures pass { OnOk result (IsMarkPass steps.now returning.now entry marking.new.marks.items marking.new.functions.items
+        marking.new.numbers.items marking.new.queue.items) }
+    ensures grows { OnOk result (MarksGrow marking.old.marks.items marking.old.numbers.items marking.old.queue.items
+        marking.new.marks.items marking.new.numbers.items marking.new.queue.items) }
     ensures reached { OnOk result (Below mark (mark_at marking.new.marks.items k)) }
 {
     let old = marking.marks[k];
@@ -127,10 +130,13 @@ fn reach_some(
     mark: Mark,
 ) -> Result<(), NoMemory>
     requires room { length steps.now < 2 ^ 32 }
-    requires pass { IsMarkPass steps.now returning.now entry marking.old.marks.items marking.old.functions.items marking.old.numbers.items marking.old.queue.items }
+    requires pass { IsMarkPass steps.now returning.now entry marking.old.marks.items marking.old.functions.items marking.old.numbers.items
+        marking.old.queue.items }
     requires due { (k : ℕ) → word ≡ Some k → k < length steps.now → IsDue steps.now returning.now entry mark k }
-    ensures pass { OnOk result (IsMarkPass steps.now returning.now entry marking.new.marks.items marking.new.functions.items marking.new.numbers.items marking.new.queue.items) }
-    ensures grows { OnOk result (MarksGrow marking.old.marks.items marking.old.numbers.items marking.old.queue.items marking.new.marks.items marking.new.numbers.items marking.new.queue.items) }
+    ensures pass { OnOk result (IsMarkPass steps.now returning.now entry marking.new.marks.items marking.new.functions.items
+        marking.new.numbers.items marking.new.queue.items) }
+    ensures grows { OnOk result (MarksGrow marking.old.marks.items marking.old.numbers.items marking.old.queue.items
+        marking.new.marks.items marking.new.numbers.items marking.new.queue.items) }
     ensures reached { OnOk result ((k : ℕ) → word ≡ Some k → k < length steps.now → Below mark (mark_at marking.new.marks.items k)) }
 {
     if let Some(k) = word {
@@ -151,12 +157,16 @@ fn number(
 ) -> Result<(), NoMemory>
     requires within { h < length steps.now }
     requires room { length steps.now < 2 ^ 32 }
-    requires pass { IsMarkPass steps.now returning.now entry marking.old.marks.items marking.old.functions.items marking.old.numbers.items marking.old.queue.items }
+    requires pass { IsMarkPass steps.now returning.now entry marking.old.marks.items marking.old.functions.items marking.old.numbers.items
+        marking.old.queue.items }
     requires reached { ReachedAt steps.now returning.now entry h h }
-    ensures pass { OnOk result (IsMarkPass steps.now returning.now entry marking.new.marks.items marking.new.functions.items marking.new.numbers.items marking.new.queue.items) }
-    ensures grows { OnOk result (MarksGrow marking.old.marks.items marking.old.numbers.items marking.old.queue.items marking.new.marks.items marking.new.numbers.items marking.new.queue.items) }
+    ensures pass { OnOk result (IsMarkPass steps.now returning.now entry marking.new.marks.items marking.new.functions.items
+        marking.new.numbers.items marking.new.queue.items) }
+    ensures grows { OnOk result (MarksGrow marking.old.marks.items marking.old.numbers.items marking.old.queue.items
+        marking.new.marks.items marking.new.numbers.items marking.new.queue.items) }
     ensures numbered { OnOk result ((i : ℕ) × (function_number marking.new.numbers.items h ≡ Some i)) }
-    ensures added { OnOk result (function_number marking.old.numbers.items h ≡ None → function_number marking.new.numbers.items h ≡ Some (length marking.old.functions.items)) }
+    ensures added { OnOk result (function_number marking.old.numbers.items h ≡ None →
+        function_number marking.new.numbers.items h ≡ Some (length marking.old.functions.items)) }
 {
     let old = marking.numbers[h];
     if let Some(_i) = old {
@@ -177,13 +187,17 @@ fn call(
 ) -> Result<(), NoMemory>
     requires within { h < length steps.now }
     requires room { length steps.now < 2 ^ 32 }
-    requires pass { IsMarkPass steps.now returning.now entry marking.old.marks.items marking.old.functions.items marking.old.numbers.items marking.old.queue.items }
+    requires pass { IsMarkPass steps.now returning.now entry marking.old.marks.items marking.old.functions.items marking.old.numbers.items
+        marking.old.queue.items }
     requires reached { ReachedAt steps.now returning.now entry h h }
-    ensures pass { OnOk result (IsMarkPass steps.now returning.now entry marking.new.marks.items marking.new.functions.items marking.new.numbers.items marking.new.queue.items) }
-    ensures grows { OnOk result (MarksGrow marking.old.marks.items marking.old.numbers.items marking.old.queue.items marking.new.marks.items marking.new.numbers.items marking.new.queue.items) }
+    ensures pass { OnOk result (IsMarkPass steps.now returning.now entry marking.new.marks.items marking.new.functions.items
+        marking.new.numbers.items marking.new.queue.items) }
+    ensures grows { OnOk result (MarksGrow marking.old.marks.items marking.old.numbers.items marking.old.queue.items
+        marking.new.marks.items marking.new.numbers.items marking.new.queue.items) }
     ensures covered { OnOk result (Covers (mark_at marking.new.marks.items h) h) }
     ensures numbered { OnOk result ((i : ℕ) × (function_number marking.new.numbers.items h ≡ Some i)) }
-    ensures added { OnOk result (function_number marking.old.numbers.items h ≡ None → function_number marking.new.numbers.items h ≡ Some (length marking.old.functions.items)) }
+    ensures added { OnOk result (function_number marking.old.numbers.items h ≡ None →
+        function_number marking.new.numbers.items h ≡ Some (length marking.old.functions.items)) }
 {
     number(steps, returning, entry, marking, h)?;
     reach(steps, returning, entry, marking, h, Mark::Owner(h))?;
@@ -199,11 +213,15 @@ fn call_some(
     word: Option<usize>,
 ) -> Result<(), NoMemory>
     requires room { length steps.now < 2 ^ 32 }
-    requires pass { IsMarkPass steps.now returning.now entry marking.old.marks.items marking.old.functions.items marking.old.numbers.items marking.old.queue.items }
+    requires pass { IsMarkPass steps.now returning.now entry marking.old.marks.items marking.old.functions.items marking.old.numbers.items
+        marking.old.queue.items }
     requires reached { (h : ℕ) → word ≡ Some h → h < length steps.now → ReachedAt steps.now returning.now entry h h }
-    ensures pass { OnOk result (IsMarkPass steps.now returning.now entry marking.new.marks.items marking.new.functions.items marking.new.numbers.items marking.new.queue.items) }
-    ensures grows { OnOk result (MarksGrow marking.old.marks.items marking.old.numbers.items marking.old.queue.items marking.new.marks.items marking.new.numbers.items marking.new.queue.items) }
-    ensures called { OnOk result ((h : ℕ) → word ≡ Some h → h < length steps.now → Covers (mark_at marking.new.marks.items h) h × ((i : ℕ) × (function_number marking.new.numbers.items h ≡ Some i))) }
+    ensures pass { OnOk result (IsMarkPass steps.now returning.now entry marking.new.marks.items marking.new.functions.items
+        marking.new.numbers.items marking.new.queue.items) }
+    ensures grows { OnOk result (MarksGrow marking.old.marks.items marking.old.numbers.items marking.old.queue.items
+        marking.new.marks.items marking.new.numbers.items marking.new.queue.items) }
+    ensures called { OnOk result ((h : ℕ) → word ≡ Some h → h < length steps.now → Covers (mark_at marking.new.marks.items h) h ×
+        ((i : ℕ) × (function_number marking.new.numbers.items h ≡ Some i))) }
 {
     if let Some(h) = word {
         if h < steps.len() {
@@ -223,11 +241,15 @@ fn go_on(
 ) -> Result<(), NoMemory>
     requires within { u < length steps.now }
     requires room { length steps.now < 2 ^ 32 }
-    requires pass { IsMarkPass steps.now returning.now entry marking.old.marks.items marking.old.functions.items marking.old.numbers.items marking.old.queue.items }
+    requires pass { IsMarkPass steps.now returning.now entry marking.old.marks.items marking.old.functions.items marking.old.numbers.items
+        marking.old.queue.items }
     requires covered { (f : ℕ) × Covers (mark_at marking.old.marks.items u) f }
-    ensures pass { OnOk result (IsMarkPass steps.now returning.now entry marking.new.marks.items marking.new.functions.items marking.new.numbers.items marking.new.queue.items) }
-    ensures grows { OnOk result (MarksGrow marking.old.marks.items marking.old.numbers.items marking.old.queue.items marking.new.marks.items marking.new.numbers.items marking.new.queue.items) }
-    ensures settled { OnOk result (IsMarkSettled steps.now returning.now marking.new.marks.items marking.new.numbers.items u ⊎ IsFrom marking.new.queue.items (length marking.old.queue.items) u) }
+    ensures pass { OnOk result (IsMarkPass steps.now returning.now entry marking.new.marks.items marking.new.functions.items
+        marking.new.numbers.items marking.new.queue.items) }
+    ensures grows { OnOk result (MarksGrow marking.old.marks.items marking.old.numbers.items marking.old.queue.items
+        marking.new.marks.items marking.new.numbers.items marking.new.queue.items) }
+    ensures settled { OnOk result (IsMarkSettled steps.now returning.now marking.new.marks.items marking.new.numbers.items u ⊎
+        IsFrom marking.new.queue.items (length marking.old.queue.items) u) }
 {
     let mark = marking.marks[u];
     let step = steps[u];
@@ -252,11 +274,16 @@ pub fn mark_words(
     requires room { length steps.now < 2 ^ 32 }
     ensures size { IfOk result (λ marking. length marking.marks.items ≡ length steps.now) }
     ensures numbers_size { IfOk result (λ marking. length marking.numbers.items ≡ length steps.now) }
-    ensures owner { IfOk result (λ marking. (v f : ℕ) → (mark_at marking.marks.items v ≡ Owner f) ↔ (ReachedAt steps.now returning.now entry f v × ((g : ℕ) → ReachedAt steps.now returning.now entry g v → g ≡ f))) }
-    ensures shared { IfOk result (λ marking. (v : ℕ) → (mark_at marking.marks.items v ≡ Shared) ↔ IsReachedTwice steps.now returning.now entry v) }
-    ensures unreached { IfOk result (λ marking. (v : ℕ) → (mark_at marking.marks.items v ≡ Unreached) ↔ ((f : ℕ) → ReachedAt steps.now returning.now entry f v → ⊥)) }
-    ensures numbers { IfOk result (λ marking. (h i : ℕ) → (function_number marking.numbers.items h ≡ Some i) ↔ ((i < length marking.functions.items) × (slice_index marking.functions.items i ≡ h))) }
-    ensures functions { IfOk result (λ marking. (h : ℕ) → ((i : ℕ) × (function_number marking.numbers.items h ≡ Some i)) ↔ ReachedAt steps.now returning.now entry h h) }
+    ensures owner { IfOk result (λ marking. (v f : ℕ) → (mark_at marking.marks.items v ≡ Owner f) ↔
+        (ReachedAt steps.now returning.now entry f v × ((g : ℕ) → ReachedAt steps.now returning.now entry g v → g ≡ f))) }
+    ensures shared { IfOk result (λ marking. (v : ℕ) → (mark_at marking.marks.items v ≡ Shared) ↔ IsReachedTwice steps.now returning.now
+        entry v) }
+    ensures unreached { IfOk result (λ marking. (v : ℕ) → (mark_at marking.marks.items v ≡ Unreached) ↔
+        ((f : ℕ) → ReachedAt steps.now returning.now entry f v → ⊥)) }
+    ensures numbers { IfOk result (λ marking. (h i : ℕ) → (function_number marking.numbers.items h ≡ Some i) ↔
+        ((i < length marking.functions.items) × (slice_index marking.functions.items i ≡ h))) }
+    ensures functions { IfOk result (λ marking. (h : ℕ) → ((i : ℕ) × (function_number marking.numbers.items h ≡ Some i)) ↔ ReachedAt
+        steps.now returning.now entry h h) }
     ensures first { IfOk result (λ marking. function_number marking.numbers.items entry ≡ Some 0) }
 {
     let marks = vec![in alloc; Mark::Unreached; steps.len()]?;

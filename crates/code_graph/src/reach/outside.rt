@@ -85,7 +85,8 @@ pub fn lowest_outside(
     requires low { AreLow words.now.addresses }
     requires returning_size { length returning.now ≡ length words.now.addresses }
     requires marks_size { length marks.now ≡ length words.now.addresses }
-    ensures { IsLowest (λ u. IsComeTo words.now returning.now marks.now entry (length words.now.addresses) u × IsOutsideOf words.now u) result }
+    ensures { IsLowest (λ u. IsComeTo words.now returning.now marks.now entry (length words.now.addresses) u × IsOutsideOf words.now u)
+        result }
 {
     let mut lowest = if_outside(words, entry);
     for k in 0..words.count() {

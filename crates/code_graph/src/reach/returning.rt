@@ -46,8 +46,11 @@ fn visit(steps: &[Step], found: &mut Found, s: usize) -> Result<(), NoMemory>
     requires room { length steps.now < 2 ^ 32 }
     requires pass { IsReturnPass steps.now found.old.flags.items found.old.queue.items }
     ensures pass { OnOk result (IsReturnPass steps.now found.new.flags.items found.new.queue.items) }
-    ensures waits { OnOk result ((done : ℕ) (left : ℕ → Bool) → done ≤ length found.old.queue.items → Waits steps.now found.old.flags.items found.old.queue.items done left → Waits steps.now found.new.flags.items found.new.queue.items done (but left s)) }
-    ensures front { OnOk result ((length found.old.queue.items ≤ length found.new.queue.items) × ((p : ℕ) → p < length found.old.queue.items → slice_index found.new.queue.items p ≡ slice_index found.old.queue.items p)) }
+    ensures waits { OnOk result ((done : ℕ) (left : ℕ → Bool) → done ≤ length found.old.queue.items →
+        Waits steps.now found.old.flags.items found.old.queue.items done left →
+        Waits steps.now found.new.flags.items found.new.queue.items done (but left s)) }
+    ensures front { OnOk result ((length found.old.queue.items ≤ length found.new.queue.items) ×
+        ((p : ℕ) → p < length found.old.queue.items → slice_index found.new.queue.items p ≡ slice_index found.old.queue.items p)) }
 {
     if has_reason(steps, &found.flags, s) && !found.flags[s] {
         found.flags[s] = true;
@@ -69,8 +72,11 @@ fn visit_sources(
     requires chain { AreStepChains steps.now (length steps.now) last.now before.now }
     requires pass { IsReturnPass steps.now found.old.flags.items found.old.queue.items }
     ensures pass { OnOk result (IsReturnPass steps.now found.new.flags.items found.new.queue.items) }
-    ensures waits { OnOk result ((done : ℕ) (left : ℕ → Bool) → done ≤ length found.old.queue.items → Waits steps.now found.old.flags.items found.old.queue.items done left → Waits steps.now found.new.flags.items found.new.queue.items done (but_keyed steps.now k left)) }
-    ensures front { OnOk result ((length found.old.queue.items ≤ length found.new.queue.items) × ((p : ℕ) → p < length found.old.queue.items → slice_index found.new.queue.items p ≡ slice_index found.old.queue.items p)) }
+    ensures waits { OnOk result ((done : ℕ) (left : ℕ → Bool) → done ≤ length found.old.queue.items →
+        Waits steps.now found.old.flags.items found.old.queue.items done left →
+        Waits steps.now found.new.flags.items found.new.queue.items done (but_keyed steps.now k left)) }
+    ensures front { OnOk result ((length found.old.queue.items ≤ length found.new.queue.items) ×
+        ((p : ℕ) → p < length found.old.queue.items → slice_index found.new.queue.items p ≡ slice_index found.old.queue.items p)) }
 {
     let mut next = last[k];
     while let Some(s) = next {
@@ -87,7 +93,9 @@ fn visit_parts(steps: &[Step], chains: &Chains, found: &mut Found, k: usize) -> 
     requires chain { AreStepChains steps.now (length steps.now) chains.now.last.items chains.now.before.items }
     requires pass { IsReturnPass steps.now found.old.flags.items found.old.queue.items }
     ensures pass { OnOk result (IsReturnPass steps.now found.new.flags.items found.new.queue.items) }
-    ensures waits { OnOk result ((done : ℕ) (left : ℕ → Bool) → done ≤ length found.old.queue.items → Waits steps.now found.old.flags.items found.old.queue.items done left → Waits steps.now found.new.flags.items found.new.queue.items done (but_parts steps.now k left)) }
+    ensures waits { OnOk result ((done : ℕ) (left : ℕ → Bool) → done ≤ length found.old.queue.items →
+        Waits steps.now found.old.flags.items found.old.queue.items done left →
+        Waits steps.now found.new.flags.items found.new.queue.items done (but_parts steps.now k left)) }
     ensures longer { OnOk result (length found.old.queue.items ≤ length found.new.queue.items) }
 {
     visit_sources(steps, &chains.last, &chains.before, found, k)?;

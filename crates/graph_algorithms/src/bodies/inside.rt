@@ -20,7 +20,8 @@ fn is_change(extent: &[NodeRange], node: usize) -> bool
 fn mark_change(changes: &mut [u64], extent: &[NodeRange], node: usize, bit: usize)
     requires { bit < 64 }
     ensures size { length changes.new ≡ length changes.old }
-    ensures bits { (v i : ℕ) → IsFlagged changes.new v i ↔ (IsFlagged changes.old v i ⊎ ((v ≡ node) × (i ≡ bit) × (v < length changes.old) × IsChange extent.now v)) }
+    ensures bits { (v i : ℕ) → IsFlagged changes.new v i ↔ (IsFlagged changes.old v i ⊎
+        ((v ≡ node) × (i ≡ bit) × (v < length changes.old) × IsChange extent.now v)) }
 {
     if node < changes.len() && is_change(extent, node) {
         set_bit(changes, node, bit);
@@ -31,7 +32,8 @@ fn mark_change(changes: &mut [u64], extent: &[NodeRange], node: usize, bit: usiz
 fn mark_changes(changes: &mut [u64], extent: &[NodeRange], bit: usize)
     requires { bit < 64 }
     ensures size { length changes.new ≡ length changes.old }
-    ensures bits { (v i : ℕ) → IsFlagged changes.new v i ↔ (IsFlagged changes.old v i ⊎ ((i ≡ bit) × (v < length changes.old) × IsChange extent.now v)) }
+    ensures bits { (v i : ℕ) → IsFlagged changes.new v i ↔ (IsFlagged changes.old v i ⊎
+        ((i ≡ bit) × (v < length changes.old) × IsChange extent.now v)) }
 {
     for range in extent {
         mark_change(changes, extent, range.from, bit);

@@ -19,7 +19,8 @@ fn visit(
     requires marked { IsMarkedBody found.old body.old.items }
     ensures marked { IsMarkedBody found.new body.new.items }
     ensures grows { OnOk result (BodyGrows found.old body.old.items found.new body.new.items) }
-    ensures only { OnOk result ((p v : ℕ) → slice_get body.new.items p ≡ Some v → (slice_get body.old.items p ≡ Some v) ⊎ ((v ≡ node) × (in_node_ranges extent.now v ≡ true))) }
+    ensures only { OnOk result ((p v : ℕ) → slice_get body.new.items p ≡ Some v → (slice_get body.old.items p ≡ Some v) ⊎
+        ((v ≡ node) × (in_node_ranges extent.now v ≡ true))) }
     ensures found { OnOk result (in_node_ranges extent.now node ≡ true → is_marked_at found.new node ≡ true) }
 {
     if !found[node] && is_in_extent(extent, node) {
@@ -42,7 +43,8 @@ fn visit_sources(
     requires marked { IsMarkedBody found.old body.old.items }
     ensures marked { IsMarkedBody found.new body.new.items }
     ensures grows { OnOk result (BodyGrows found.old body.old.items found.new body.new.items) }
-    ensures only { OnOk result ((p v : ℕ) → slice_get body.new.items p ≡ Some v → (slice_get body.old.items p ≡ Some v) ⊎ (HasEdge edges.now.sources edges.now.targets v node × (in_node_ranges extent.now v ≡ true))) }
+    ensures only { OnOk result ((p v : ℕ) → slice_get body.new.items p ≡ Some v → (slice_get body.old.items p ≡ Some v) ⊎
+        (HasEdge edges.now.sources edges.now.targets v node × (in_node_ranges extent.now v ≡ true))) }
     ensures settled { OnOk result (IsSettled edges.now.sources edges.now.targets (in_node_ranges extent.now) found.new node) }
 {
     let mut next = edges.last(node);
@@ -66,7 +68,8 @@ pub fn fill_body(
     requires empty { body.old.items ≡ [] }
     requires marked { IsMarkedBody found.old body.old.items }
     ensures marked { IsMarkedBody found.new body.new.items }
-    ensures nodes { OnOk result ((v : ℕ) → IsIn body.new.items v ↔ LeadsWithin edges.now.sources edges.now.targets (in_node_ranges extent.now) header v) }
+    ensures nodes { OnOk result ((v : ℕ) → IsIn body.new.items v ↔ LeadsWithin edges.now.sources edges.now.targets
+        (in_node_ranges extent.now) header v) }
 {
     visit_sources(edges, extent, found, body, header)?;
     let mut done = 0;

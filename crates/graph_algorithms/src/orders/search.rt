@@ -37,7 +37,8 @@ impl Search {
         requires arcs { length arcs.now < 2 ^ 32 }
         requires numbered { AreNumbered count arcs.now }
         ensures size { IfOk result (λ new. length new.marks.items ≡ count) }
-        ensures search { IfOk result (λ new. IsSearch arcs.now new.before.items new.next.items new.marks.items new.path.items new.order.items) }
+        ensures search { IfOk result (λ new. IsSearch arcs.now new.before.items new.next.items new.marks.items new.path.items
+            new.order.items) }
         ensures path { IfOk result (λ new. length new.path.items ≡ 0) }
     {
         let (next, before) = chains_of(alloc, count, arcs)?;
@@ -53,12 +54,14 @@ impl Search {
 
     /// Puts a number that isn't met at the end of the path.
     fn open(&mut self, arcs: &[Arc], number: usize) -> Result<(), NoMemory>
-        requires search { IsSearch arcs.now self.old.before.items self.old.next.items self.old.marks.items self.old.path.items self.old.order.items }
+        requires search { IsSearch arcs.now self.old.before.items self.old.next.items self.old.marks.items self.old.path.items
+            self.old.order.items }
         requires within { number < length self.old.marks.items }
         requires unmet { mark self.old.marks.items number ≡ Unmet }
         requires joins { (i : ℕ) → i + 1 ≡ length self.old.path.items → HasArc arcs.now (number_in_place self.old.path.items i) number }
         ensures size { OnOk result (length self.new.marks.items ≡ length self.old.marks.items) }
-        ensures search { OnOk result (IsSearch arcs.now self.new.before.items self.new.next.items self.new.marks.items self.new.path.items self.new.order.items) }
+        ensures search { OnOk result (IsSearch arcs.now self.new.before.items self.new.next.items self.new.marks.items self.new.path.items
+            self.new.order.items) }
         ensures met { OnOk result (AreMet self.old.marks.items self.new.marks.items) }
         ensures here { OnOk result (IsMet self.new.marks.items number) }
         ensures work { OnOk result (work self.new.next.items self.new.marks.items < work self.old.next.items self.old.marks.items) }
@@ -70,12 +73,14 @@ impl Search {
 
     /// Takes a number without further arcs from the end of the path, and orders it.
     fn close(&mut self, arcs: &[Arc], number: usize) -> Result<(), NoMemory>
-        requires search { IsSearch arcs.now self.old.before.items self.old.next.items self.old.marks.items self.old.path.items self.old.order.items }
+        requires search { IsSearch arcs.now self.old.before.items self.old.next.items self.old.marks.items self.old.path.items
+            self.old.order.items }
         requires end { (i : ℕ) → i + 1 ≡ length self.old.path.items → number_in_place self.old.path.items i ≡ number }
         requires some { 0 < length self.old.path.items }
         requires over { arc_next self.old.next.items number ≡ None }
         ensures size { OnOk result (length self.new.marks.items ≡ length self.old.marks.items) }
-        ensures search { OnOk result (IsSearch arcs.now self.new.before.items self.new.next.items self.new.marks.items self.new.path.items self.new.order.items) }
+        ensures search { OnOk result (IsSearch arcs.now self.new.before.items self.new.next.items self.new.marks.items self.new.path.items
+            self.new.order.items) }
         ensures met { OnOk result (AreMet self.old.marks.items self.new.marks.items) }
         ensures work { OnOk result (work self.new.next.items self.new.marks.items < work self.old.next.items self.old.marks.items) }
     {
@@ -89,13 +94,16 @@ impl Search {
     fn step(&mut self, arcs: &[Arc]) -> Result<Option<usize>, NoMemory>
         requires arcs { length arcs.now < 2 ^ 32 }
         requires numbered { AreNumbered (length self.old.marks.items) arcs.now }
-        requires search { IsSearch arcs.now self.old.before.items self.old.next.items self.old.marks.items self.old.path.items self.old.order.items }
+        requires search { IsSearch arcs.now self.old.before.items self.old.next.items self.old.marks.items self.old.path.items
+            self.old.order.items }
         requires some { 0 < length self.old.path.items }
         ensures size { OnOk result (length self.new.marks.items ≡ length self.old.marks.items) }
-        ensures search { OnOk result (IsSearch arcs.now self.new.before.items self.new.next.items self.new.marks.items self.new.path.items self.new.order.items) }
+        ensures search { OnOk result (IsSearch arcs.now self.new.before.items self.new.next.items self.new.marks.items self.new.path.items
+            self.new.order.items) }
         ensures met { OnOk result (AreMet self.old.marks.items self.new.marks.items) }
         ensures back { IfOk result (λ found. IsBack arcs.now self.new.path.items found) }
-        ensures work { IfOk result (λ found. found ≡ None → work self.new.next.items self.new.marks.items < work self.old.next.items self.old.marks.items) }
+        ensures work { IfOk result (λ found. found ≡ None → work self.new.next.items self.new.marks.items < work self.old.next.items
+            self.old.marks.items) }
     {
         let number = self.path[self.path.len() - 1];
         match self.next[number] {
@@ -116,11 +124,13 @@ impl Search {
     pub fn visit(&mut self, arcs: &[Arc], root: usize) -> Result<Option<usize>, NoMemory>
         requires arcs { length arcs.now < 2 ^ 32 }
         requires numbered { AreNumbered (length self.old.marks.items) arcs.now }
-        requires search { IsSearch arcs.now self.old.before.items self.old.next.items self.old.marks.items self.old.path.items self.old.order.items }
+        requires search { IsSearch arcs.now self.old.before.items self.old.next.items self.old.marks.items self.old.path.items
+            self.old.order.items }
         requires path { length self.old.path.items ≡ 0 }
         requires within { root < length self.old.marks.items }
         ensures size { OnOk result (length self.new.marks.items ≡ length self.old.marks.items) }
-        ensures search { OnOk result (IsSearch arcs.now self.new.before.items self.new.next.items self.new.marks.items self.new.path.items self.new.order.items) }
+        ensures search { OnOk result (IsSearch arcs.now self.new.before.items self.new.next.items self.new.marks.items self.new.path.items
+            self.new.order.items) }
         ensures met { OnOk result (AreMet self.old.marks.items self.new.marks.items) }
         ensures here { OnOk result (IsMet self.new.marks.items root) }
         ensures back { IfOk result (λ found. IsBack arcs.now self.new.path.items found) }

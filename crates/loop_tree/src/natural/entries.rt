@@ -37,7 +37,8 @@ fn is_among(nodes: &[usize], node: usize) -> bool
 pub fn entry_of(graph: &CodeGraph, node: usize) -> usize
     requires graph { IsSmallGraph graph.now }
     requires node { node < length graph.now.code.nodes }
-    ensures { slice_get graph.now.code.nodes result ≡ Some ((flow.graph graph.now).entry ((flow.graph graph.now).owner (slice_index graph.now.code.nodes node))) }
+    ensures { slice_get graph.now.code.nodes result ≡ Some ((flow.graph graph.now).entry
+        ((flow.graph graph.now).owner (slice_index graph.now.code.nodes node))) }
 {
     graph.entry_node(graph.owner(node))
 }

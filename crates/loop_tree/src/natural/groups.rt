@@ -30,7 +30,8 @@ fn add_group(depths: &mut [usize], bodies: &[u64])
     requires size { length bodies.now ≡ length depths.old }
     requires small { (i : ℕ) → i < length depths.old → slice_index depths.old i ≤ 4096 }
     ensures size { length depths.new ≡ length depths.old }
-    ensures counts { (i : ℕ) → i < length depths.old → slice_index depths.new i ≡ slice_index depths.old i + count_ones (slice_index bodies.now i) }
+    ensures counts { (i : ℕ) → i < length depths.old → slice_index depths.new i ≡ slice_index depths.old i + count_ones
+        (slice_index bodies.now i) }
 {
     for node in 0..depths.len() {
         depths[node] += bodies[node].count_ones() as usize;

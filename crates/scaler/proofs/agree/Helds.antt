@@ -3,9 +3,7 @@ use Rattle.std.proofs.Common.{◌≡◌, ℕ, List, sym, ap, subst, ◌∙◌, �
 use Rattle.scale_base.specs.Image.{Image, image_of}
 use Rattle.power_model.specs.Numbers.{PowerModel}
 use Rattle.power_model.specs.Price.{cycles_of}
-use Rattle.machine_file.specs.Machine.{read_machine}
 use Rattle.loop_file.specs.declared.notes.LoopNote.{LoopNote}
-use Rattle.loop_file.specs.Loops.{read_loops}
 use Rattle.cost_theory.specs.Graph.{Graph}
 use Rattle.cost_theory.specs.Worst.{AreNumbers}
 use Rattle.code_text.specs.Text.{text_of}
@@ -13,7 +11,7 @@ use Rattle.code_text.specs.EdgeCosts.{weights}
 use Rattle.flow_graph.specs.FlowGraph.{graph}
 use Rattle.loop_forest.specs.Tree.{loops}
 use Rattle.answer_laws.proofs.Laws.{weights_same, numbers_alike}
-use Rattle.answer_parts.specs.Parts.{unscaled}
+use Rattle.program_sources.specs.Sources.{sources_of}
 use Rattle.marked_images.specs.Refused.{IsLoopRefused}
 use Rattle.scaler.specs.Held.{IsProgramHeld, IsHeldProgram, IsHeld, held_within}
 use Rattle.scaler.specs.Agree.{AreAlikeAnswers, HeldAnswersAgree}
@@ -54,7 +52,4 @@ module _ (power : PowerModel) (image : Image) (notes : List LoopNote) where
 pub held_answers : HeldAnswersAgree
 unfolding IsHeld
 held_answers file machine notes_file =
-    then_alike (read_machine machine) _ (λ power.
-    then_alike (image_of file) _ (λ original.
-    then_alike (unscaled original.keyed_segment) _ (λ _.
-    then_alike (read_loops original notes_file) _ (λ notes. programs_held_alike power original notes))))
+    then_alike (sources_of file machine notes_file) _ (λ s. programs_held_alike s.power s.view s.notes)

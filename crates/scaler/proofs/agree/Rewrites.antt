@@ -8,10 +8,8 @@ use Rattle.scale_base.specs.Image.{Image, image_of}
 use Rattle.power_model.specs.Numbers.{PowerModel}
 use Rattle.power_model.specs.Price.{time_at}
 use Rattle.power_model.specs.Slowest.{slowest_of, fastest}
-use Rattle.machine_file.specs.Machine.{read_machine}
 use Rattle.elf_patch.specs.Stored.{IsStubBase}
 use Rattle.loop_file.specs.declared.notes.LoopNote.{LoopNote}
-use Rattle.loop_file.specs.Loops.{read_loops}
 use Rattle.cost_theory.specs.Worst.{Numbers}
 use Rattle.scale_base.specs.declared.edges.Edge.{Edge}
 use Rattle.code_text.specs.EdgeCosts.{edge_class}
@@ -23,7 +21,7 @@ use Rattle.scale_sites.specs.Counters.{counted_loops}
 use Rattle.stub_writer.specs.Stubs.{Site, block_size, out_of_reach}
 use Rattle.rewritten_runs.specs.Stubs.{IsWeighed, rewritten_file, marks_by_slack, told_at, fragment_of, fragments_at}
 use Rattle.rewritten_runs.proofs.Laws.{led_class, marked_led}
-use Rattle.answer_parts.specs.Parts.{unscaled}
+use Rattle.program_sources.specs.Sources.{sources_of}
 use Rattle.marked_images.specs.Refused.{IsLoopRefused, IsCounterRefused}
 use Rattle.scaler.specs.Rewritten.{IsTooLong, IsTooLate, IsProgramRewritten, IsRewrittenProgram, IsRewritten}
 use Rattle.marked_images.specs.Stored.{rewritten_summary, unless_out_of_reach}
@@ -163,15 +161,9 @@ module _ (power : PowerModel) (image : Image) (notes : List LoopNote) where
 pub rewritten_answers : RewrittenAnswersAgree
 unfolding IsRewritten
 rewritten_answers file machine notes_file =
-    then_alike (read_machine machine) _ (λ power.
-    then_alike (image_of file) _ (λ original.
-    then_alike (unscaled original.keyed_segment) _ (λ _.
-    then_alike (read_loops original notes_file) _ (λ notes. programs_rewritten_alike power original notes))))
+    then_alike (sources_of file machine notes_file) _ (λ s. programs_rewritten_alike s.power s.view s.notes)
 
 pub rewritten_as_answers : RewrittenAsAnswersAgree
 unfolding IsRewrittenAs
 rewritten_as_answers file machine notes_file min_gain counters =
-    then_alike (read_machine machine) _ (λ power.
-    then_alike (image_of file) _ (λ original.
-    then_alike (unscaled original.keyed_segment) _ (λ _.
-    then_alike (read_loops original notes_file) _ (λ notes. programs_rewritten_alike (with_gain power min_gain) original (notes_with counters notes)))))
+    then_alike (sources_of file machine notes_file) _ (λ s. programs_rewritten_alike (with_gain s.power min_gain) s.view (notes_with counters s.notes))

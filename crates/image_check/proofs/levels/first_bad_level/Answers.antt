@@ -3,7 +3,7 @@ use Rattle.image_check.proofs.levels.first_bad_level.Goals as goal
 pub first_level-requires : goal.first_level-requires
 first_level-requires c = (
   c.requires.0,
-  c.args.foreign.now,
+  c.args.received.now.view,
   c.requires.1,
   c.requires.2,
   c.requires.3,
@@ -17,7 +17,7 @@ first_level-requires c = (
 )
 
 pub returns : goal.returns
-returns c = λ original found w n charged known. c.first_level.ensures original c.args.foreign.now found w n charged (record {
+returns c = λ original found w n charged known. c.first_level.ensures original c.args.received.now.view found w n charged (record {
   known = known;
   bytes = c.in_ok-rows.ensures.bytes;
   first = c.in_ok-rows.ensures.first;

@@ -1,6 +1,6 @@
 use Rattle.std.proofs.Common.{◌∙◌, length, ap, arith}
 use Rattle.loop_drafts.specs.Pieces.{printed}
-use Rattle.pace_tool.proofs.Drafted.{printed_short}
+use Rattle.version_fits.proofs.Laws.{printed_short}
 use Rattle.pace_tool.proofs.in_one.drafted_reply.Goals as goal
 
 pub fitted_reply-requires : goal.fitted_reply-requires

@@ -50,4 +50,4 @@ returns g c =
     let read : files_view files ≡ c.deref.result.now ∷ c.deref-2.result.now ∷ files_view given =
     same ∙ ap (λ (bytes : List ℕ). bytes ∷ second.items ∷ files_view given) (sym c.deref.ensures.value) ∙ ap (λ (bytes : List ℕ). c.deref.result.now ∷ bytes ∷ files_view given) (sym c.deref-2.ensures.value) in
     subst (λ (loaded : List (List ℕ)). Replies (Makes (in_one_view command) loaded) c.goal_reply.result) (sym read)
-    (made_told c.deref-2.result.now command.out.now (files_view given) c.deref.result.now c.goal_reply.result c.goal_reply.ensures.bytes c.goal_reply.ensures.told)
+    (made_told c.deref-2.result.now command.out.now (files_view given) c.deref.result.now command.versions c.goal_reply.result c.goal_reply.ensures.bytes c.goal_reply.ensures.told)

@@ -1,30 +1,16 @@
-use Rattle.std.proofs.Common.{◌<◌, ℕ, All, subst, Ok, Err, refl, arith}
+use Rattle.std.proofs.Common.{[], ◌++◌, Bool, List, ℕ, append-nil, refl, subst, sym}
 use Rattle.std.specs.Prelude.{string_bytes}
-use Rattle.std.proofs.lemmas.List.{get_or_default}
-use Rattle.scale_base.specs.Answer.{AnswersBy}
-use Rattle.scale_base.specs.declared.refusal.Stop.{Stop}
 use Rattle.host_runs.specs.Views.{files_view}
-use Rattle.loop_drafts.specs.declared.drafted.LoopDraft.{LoopDraft}
-use Rattle.loop_drafts.specs.Drafted.{IsDrafted}
-use Rattle.loop_drafts.specs.Kept.{AreBytes}
-use Rattle.pace_tool.specs.Views.{draft_view}
-use Rattle.pace_tool.proofs.ToldInOne.{plain_told}
+use Rattle.pace_tool.specs.InOne.{IsTried, MakesOfTried}
+use Rattle.pace_tool.proofs.ToldInOne.{Replies, tried_told}
 use Rattle.pace_tool.proofs.in_one.plain_reply.Goals as goal
 
-pub drafted_reply-requires : goal.drafted_reply-requires
-drafted_reply-requires g c = record { drafted = c.in-Ok.ensures; is_printed = refl }
-
-pub returns-in-Ok : goal.returns-in-Ok
-returns-in-Ok g c =
+pub returns-else-goal : goal.returns-else-goal
+returns-else-goal g c =
     let to = c.args.goal.now in
-    let bytes : AreBytes c.args.image.now = λ k d lt. let fit = c.type_inv.image k in let same = get_or_default c.args.image.now k d 0 lt in omega (arith, fit, same) in
-    plain_told to.machine.now to.out.now (files_view to.inputs.items.now) c.args.image.now (string_bytes c.args.text) (Ok (draft_view c.in-Ok.draft)) c.drafted_reply.result bytes
-    (record { drafted = c.in-Ok.ensures; is_printed = refl }) c.drafted_reply.ensures
-
-pub returns-in-Err-Refused : goal.returns-in-Err-Refused
-returns-in-Err-Refused g c =
-    let to = c.args.goal.now in
-    let bytes : AreBytes c.args.image.now = λ k d lt. let fit = c.type_inv.image k in let same = get_or_default c.args.image.now k d 0 lt in omega (arith, fit, same) in
-    let refused : IsDrafted c.args.image.now (Err c.in-Err-Refused.refusal) =
-    subst (λ (stop : Stop). AnswersBy {X = LoopDraft} {Y = LoopDraft} (λ x. x) (Err stop) (IsDrafted c.args.image.now)) c.in-Err-Refused.field-0-is c.in-Err-Refused.ensures in
-    plain_told to.machine.now to.out.now (files_view to.inputs.items.now) c.args.image.now (string_bytes c.args.text) (Err c.in-Err-Refused.refusal) c.refused.result bytes refused c.refused.ensures
+    let inputs = files_view to.inputs.items.now in
+    let image : List ℕ = c.args.image.now in
+    let text : List ℕ = string_bytes c.args.text in
+    tried_told to.machine.now to.out.now inputs to.versions image text image [] c.tried_reply.result
+    (subst (λ (versions : Bool). IsTried to.machine.now inputs versions image image []) (sym c.if-goal.false) (refl, refl))
+    (subst (λ (all : List ℕ). Replies (MakesOfTried to.machine.now to.out.now inputs image all) c.tried_reply.result) (sym (append-nil text)) c.tried_reply.ensures)

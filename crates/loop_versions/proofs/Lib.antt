@@ -1,0 +1,9 @@
+pub mod GuardSteps
+pub mod Moved
+pub mod Reach
+pub mod Free
+pub mod Parts
+pub mod Placed
+pub mod Sites
+pub mod Fit
+pub mod Laws

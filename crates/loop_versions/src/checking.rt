@@ -1,0 +1,167 @@
+//! Whether all pieces and sites fit.
+
+ghost use Rattle.std.specs.Prelude.{◌≡◌, ◌≤◌, ◌<◌, ◌+◌, ◌*◌, ◌^◌, ◌==◌, ◌&&◌, count_by, length, true, Ok, Some};
+ghost use Rattle.std.specs.List.{list_all};
+ghost use Rattle.scale_base.specs.Elf as elf;
+ghost use Rattle.scale_base.specs.Image.{image_of};
+ghost use Rattle.image_lower.specs.FarJumps as far;
+ghost use Rattle.loop_versions.specs.Fitting as fitting;
+
+use crate::fitting::{fits_jump, is_free, is_right, origin_of, piece_len, stands_for};
+use crate::pieces::{Piece, Site};
+use byteorder::{ByteOrder, LittleEndian};
+use elf_image::ImageView;
+use elf_view::program_header_count;
+
+/// Whether each of some pieces, which stand one behind the other from a place on, leads on to what stands for the next instructions.
+pub fn are_right(
+    view: &ImageView<'_>,
+    pieces: &[Piece],
+    base: u32,
+    place: u32,
+    others: &[Piece],
+) -> bool
+    requires few { length pieces.now ≤ 4096 }
+    requires image { image_of view.now.file ≡ Ok view.now }
+    requires room { place + 36 * length others.now < 2 ^ 32 }
+    ensures { result ≡ fitting.are_right view.now pieces.now base place others.now }
+{
+    match others {
+        [] => true,
+        [first, rest @ ..] => {
+            view.is_text_word(origin_of(first))
+                && is_right(view, pieces, base, place, first)
+                && are_right(view, pieces, base, place + 4 * piece_len(first), rest)
+        }
+    }
+}
+
+/// Whether no more than seven bridges, guards and sites stand on each way from some pieces.
+pub fn are_free(pieces: &[Piece], sites: &[Site], base: u32, place: u32, others: &[Piece]) -> bool
+    requires few { length pieces.now ≤ 4096 }
+    requires room { place + 36 * length others.now < 2 ^ 32 }
+    ensures { result ≡ fitting.are_free pieces.now sites.now base place others.now }
+{
+    match others {
+        [] => true,
+        [first, rest @ ..] => {
+            is_free(pieces, sites, base, 8, u64::from(place))
+                && are_free(pieces, sites, base, place + 4 * piece_len(first), rest)
+        }
+    }
+}
+
+/// Where the program header table begins.
+#[tactic(auto, unfolding(scale_base::specs::Bytes::list_half_at, scale_base::specs::Bytes::list_word_at))]
+fn table_offset(file: &[u8]) -> usize
+    requires { 52 ≤ length file.now }
+    ensures value { result ≡ elf.e_phoff file.now }
+    ensures small { result < 2 ^ 32 }
+{
+    LittleEndian::read_u32(&file[28..]) as usize
+}
+
+/// Whether the four bytes from a place on share one with the program header table.
+fn touches_table(file: &[u8], place: usize) -> bool
+    requires header { 52 ≤ length file.now }
+    requires within { place + 4 ≤ length file.now }
+    ensures { result ≡ far.touches_table file.now (Some place) }
+{
+    let from = table_offset(file);
+    let entries = program_header_count(file);
+    entries > 0 && place < from + 32 * entries && from < place + 4
+}
+
+/// Whether the word at an address lies in the program header table.
+fn is_in_table(view: &ImageView<'_>, at: u32) -> bool
+    ensures { result ≡ far.is_in_table view.now.file at }
+{
+    match view.file_place(at) {
+        Some(place) => touches_table(view.file(), place),
+        None => false,
+    }
+}
+
+fn is_once(sites: &[Site], at: u32) -> bool
+    ensures { result ≡ (count_by (λ o. o.at == at) sites.now == 1) }
+{
+    sites.iter().filter(|o| o.at == at).count() == 1
+}
+
+/// Whether a word of the text may become a jump to what stands for it.
+pub fn is_site_right(
+    view: &ImageView<'_>,
+    pieces: &[Piece],
+    sites: &[Site],
+    base: u32,
+    site: &Site,
+) -> bool
+    requires { length pieces.now ≤ 4096 }
+    ensures { result ≡ fitting.is_site_right view.now pieces.now sites.now base site.now }
+{
+    view.is_text_word(site.at)
+        && !is_in_table(view, site.at)
+        && is_once(sites, site.at)
+        && stands_for(pieces, base, u64::from(site.to), u64::from(site.at))
+        && fits_jump(site.at, site.to)
+}
+
+fn are_sites_right(
+    view: &ImageView<'_>,
+    pieces: &[Piece],
+    sites: &[Site],
+    base: u32,
+    others: &[Site],
+) -> bool
+    requires { length pieces.now ≤ 4096 }
+    ensures { result ≡ list_all (fitting.is_site_right view.now pieces.now sites.now base) others.now }
+{
+    match others {
+        [] => true,
+        [first, rest @ ..] => {
+            is_site_right(view, pieces, sites, base, first)
+                && are_sites_right(view, pieces, sites, base, rest)
+        }
+    }
+}
+
+fn is_site_free(pieces: &[Piece], sites: &[Site], base: u32, at: u32) -> bool
+    requires { length pieces.now ≤ 4096 }
+    ensures { result ≡ fitting.is_free (fitting.ways pieces.now sites.now base) 8 at }
+{
+    is_free(pieces, sites, base, 8, u64::from(at))
+}
+
+fn are_sites_free(pieces: &[Piece], sites: &[Site], base: u32, others: &[Site]) -> bool
+    requires { length pieces.now ≤ 4096 }
+    ensures { result ≡ list_all (λ s. fitting.is_free (fitting.ways pieces.now sites.now base) 8 s.at) others.now }
+{
+    match others {
+        [] => true,
+        [first, rest @ ..] => {
+            is_site_free(pieces, sites, base, first.at) && are_sites_free(pieces, sites, base, rest)
+        }
+    }
+}
+
+/// Whether the entry is a word of the text, and there is a piece.
+fn are_there(view: &ImageView<'_>, pieces: &[Piece]) -> bool
+    ensures { result ≡ fitting.are_there view.now pieces.now }
+{
+    view.is_text_word(view.entry()) && !pieces.is_empty()
+}
+
+/// Whether pieces and sites fit an image, with the first piece at a base.
+#[tactic(auto, unfolding(crate::specs::Fitting::are_fit))]
+pub fn are_fit(view: &ImageView<'_>, pieces: &[Piece], sites: &[Site], base: u32) -> bool
+    requires few { length pieces.now ≤ 4096 }
+    requires image { image_of view.now.file ≡ Ok view.now }
+    requires room { base + 147456 < 2 ^ 32 }
+    ensures { result ≡ fitting.are_fit view.now pieces.now sites.now base }
+{
+    are_there(view, pieces)
+        && are_right(view, pieces, base, base, pieces)
+        && are_sites_right(view, pieces, sites, base, sites)
+        && are_free(pieces, sites, base, base, pieces)
+        && are_sites_free(pieces, sites, base, sites)
+}

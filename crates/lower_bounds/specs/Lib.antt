@@ -1,0 +1,3 @@
+pub mod LowerBounds
+pub mod Laws
+pub mod LowerTables

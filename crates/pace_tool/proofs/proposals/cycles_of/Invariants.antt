@@ -1,5 +1,0 @@
-use Rattle.std.proofs.Common.{◌≡◌, length}
-use Rattle.pace_tool.proofs.proposals.cycles_of.Given as goal
-
-abbrev pub invariant-loop-ending : goal.invariant-loop-ending
-invariant-loop-ending l = length l.cycles.items ≡ l.ending-index

@@ -1,0 +1,20 @@
+use Rattle.std.proofs.Common.{◌∙◌, ap, length, arith}
+use Rattle.loop_drafts.specs.Pieces.{printed}
+use Rattle.version_fits.proofs.Printed.{printed_short}
+use Rattle.version_fits.proofs.fits.drafted_file.Goals as goal
+
+pub returns-in-Ok-clause-drafted : goal.returns-in-Ok-clause-drafted
+returns-in-Ok-clause-drafted g c =
+    let none = c.if-draft-gt0.false in
+    record {
+      draft = c.in-Ok.draft;
+      drafted = c.in-Ok.ensures;
+      closed = omega (arith, none);
+      is_printed = c.in_ok-printed_text-in-Ok.ensures ∙ ap printed c.deref.ensures.value;
+    }
+
+pub returns-in-Ok-clause-short : goal.returns-in-Ok-clause-short
+returns-in-Ok-clause-short g c =
+    let short = printed_short c.args.image.now c.in-Ok.draft c.in-Ok.ensures in
+    let size = ap length (c.in_ok-printed_text-in-Ok.ensures ∙ ap printed c.deref.ensures.value) in
+    omega (arith, short, size)

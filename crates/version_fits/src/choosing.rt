@@ -1,0 +1,165 @@
+//! The version by which a program takes the least energy.
+
+ghost use Rattle.std.specs.Prelude.{◌≡◌, ◌<◌, ◌≤◌, length, map, true, IfOk, IfSome};
+ghost use Rattle.std.specs.List.{All};
+ghost use Rattle.versioned_images.specs.Versions.{IsVersionOf};
+ghost use Rattle.version_fits.specs.Chosen.{IsBest, IsChosenVersion, IsDraftedFile, IsFitOf};
+
+use crate::fits::{Fit, FitGoal, drafted_file, fit_file, fit_image};
+use pace_fit::Fitted;
+use run_progress::Progress;
+use scale_base::NoMemory;
+use std::alloc::Global;
+use versioned_images::{Version, find_versions};
+
+/// A version of a program, and the numbers of a fit of the program without it and of one with it.
+#[derive(Drop)]
+pub struct ChosenVersion {
+    pub version: Version,
+    pub without: Fitted,
+    pub fitted: Fitted,
+}
+
+// Whether the same inputs count.
+fn are_same(flags: &[bool], others: &[bool]) -> bool
+    ensures { result ≡ true → flags.now ≡ others.now }
+{
+    match (flags, others) {
+        ([], []) => true,
+        ([flag, flags @ ..], [other, others @ ..]) => flag == other && are_same(flags, others),
+        _ => false,
+    }
+}
+
+// Whether a fit takes less than another one, on the same inputs.
+fn takes_less(fit: &Fit, than: &Fit) -> bool
+    ensures less { result ≡ true → fit.now.fitted.energy < than.now.fitted.energy }
+    ensures same { result ≡ true → fit.now.flags.items ≡ than.now.flags.items }
+{
+    fit.fitted.energy < than.fitted.energy && are_same(&fit.flags, &than.flags)
+}
+
+// The least fit so far, and the version that it is of, if it isn't that of the program itself.
+#[derive(Drop)]
+struct Best {
+    version: Option<Version>,
+    fit: Fit,
+}
+
+// The least fit so far, or that of this version where it takes less.
+fn try_version<P: Progress>(
+    alloc: Global,
+    goal: &FitGoal<'_>,
+    plain: &[u8],
+    without: &Fitted,
+    best: Best,
+    version: Version,
+    progress: &mut P,
+) -> Result<Best, NoMemory>
+    requires best { IsBest plain.now goal.now.machine.now (map (λ input. input.items) goal.now.inputs.now) without.now best }
+    requires version { IsVersionOf plain.now version }
+    ensures { IfOk result (IsBest plain.now goal.now.machine.now (map (λ input. input.items) goal.now.inputs.now) without.now) }
+{
+    if let Some(fit) = fit_image(alloc, goal, &version.file, progress)? {
+        if takes_less(&fit, &best.fit) {
+            return Ok(Best {
+                version: Some(version),
+                fit,
+            });
+        }
+    }
+    Ok(best)
+}
+
+// The least fit of a program and its versions.
+fn best_of<P: Progress>(
+    alloc: Global,
+    goal: &FitGoal<'_>,
+    plain: &[u8],
+    first: Fit,
+    versions: Vec<Version>,
+    progress: &mut P,
+) -> Result<Best, NoMemory>
+    requires first { IsFitOf plain.now goal.now.machine.now (map (λ input. input.items) goal.now.inputs.now) first.flags.items first.fitted }
+    requires versions { All (IsVersionOf plain.now) versions.items }
+    ensures { IfOk result (IsBest plain.now goal.now.machine.now (map (λ input. input.items) goal.now.inputs.now) first.fitted) }
+{
+    let without = first.fitted;
+    let mut best = Best {
+        version: None,
+        fit: first,
+    };
+    for version in versions {
+        best = try_version(alloc, goal, plain, &without, best, version, progress)?;
+    }
+    Ok(best)
+}
+
+// The choice among versions of a program that is fitted so.
+fn chosen_of<P: Progress>(
+    alloc: Global,
+    goal: &FitGoal<'_>,
+    plain: &[u8],
+    first: Fit,
+    versions: Vec<Version>,
+    progress: &mut P,
+) -> Result<Option<ChosenVersion>, NoMemory>
+    requires first { IsFitOf plain.now goal.now.machine.now (map (λ input. input.items) goal.now.inputs.now) first.flags.items first.fitted }
+    requires versions { All (IsVersionOf plain.now) versions.items }
+    ensures { IfOk result (λ chosen. IfSome chosen (IsChosenVersion plain.now goal.now.machine.now
+        (map (λ input. input.items) goal.now.inputs.now))) }
+{
+    let without = first.fitted;
+    let Best { version, fit } = best_of(alloc, goal, plain, first, versions, progress)?;
+    match version {
+        Some(version) => Ok(Some(ChosenVersion {
+            version,
+            without,
+            fitted: fit.fitted,
+        })),
+        None => Ok(None),
+    }
+}
+
+// The choice among the versions of a program with a loop file.
+fn choose_by<P: Progress>(
+    alloc: Global,
+    goal: &FitGoal<'_>,
+    plain: &[u8],
+    loops: &[u8],
+    progress: &mut P,
+) -> Result<Option<ChosenVersion>, NoMemory>
+    requires plain { length plain.now ≤ 4194304 }
+    requires short { length loops.now ≤ 1048576 }
+    requires loops { IsDraftedFile plain.now loops.now }
+    ensures { IfOk result (λ chosen. IfSome chosen (IsChosenVersion plain.now goal.now.machine.now
+        (map (λ input. input.items) goal.now.inputs.now))) }
+{
+    let versions = find_versions(alloc, plain, loops)?;
+    if versions.is_empty() {
+        return Ok(None);
+    }
+    match fit_file(alloc, goal, plain, loops, progress)? {
+        Some(first) => chosen_of(alloc, goal, plain, first, versions, progress),
+        None => Ok(None),
+    }
+}
+
+/// The version of a program that takes the least energy on the inputs that count, of several the first; none where no version takes less than the
+/// program itself, where a loop of it is open, or where something refuses it. Each is fitted with a draft of its loops as its loop file. A version is
+/// left out where a loop of it is open, or where other inputs count. Which versions are tried isn't promised: at most 8. How far the runs are is told.
+pub fn choose_version<P: Progress>(
+    alloc: Global,
+    goal: &FitGoal<'_>,
+    plain: &[u8],
+    progress: &mut P,
+) -> Result<Option<ChosenVersion>, NoMemory>
+    requires { length plain.now ≤ 4194304 }
+    ensures { IfOk result (λ chosen. IfSome chosen (IsChosenVersion plain.now goal.now.machine.now
+        (map (λ input. input.items) goal.now.inputs.now))) }
+{
+    match drafted_file(alloc, goal, plain, progress)? {
+        Some(file) => choose_by(alloc, goal, plain, file.as_bytes(), progress),
+        None => Ok(None),
+    }
+}

@@ -1,0 +1,277 @@
+-- The versioned image follows the original: by the number of the original's steps.
+use Rattle.std.proofs.Common.{◌≡◌, ℕ, zero, suc, ◌+◌, ◌<◌, Bool, true, false, not, cond, List, [], ◌∷◌, ◌++◌, length, map, filter, replicate, refl, arith, sym, ◌∙◌, ap, subst, Some, ◌⊎◌, inl, inr, append_assoc, append-nil}
+use Rattle.std.specs.Prelude.{All, slice_set, ◌||◌}
+use Rattle.std.proofs.Math.Path.{fun_ext}
+use Rattle.std.proofs.lemmas.Bool.{cond-true, cond-false}
+use Rattle.std.proofs.lemmas.List.Elements.{All-pop, All-head, All-tail, All-replicate, All-set, filter-append}
+use Rattle.scale_base.specs.declared.stepping.Class.{Class}
+use Rattle.scale_base.specs.declared.stepping.Stepped.{Stepped}
+use Rattle.scale_base.specs.declared.stepping.StepEnd.{StepEnd}
+use Rattle.scale_base.specs.declared.stepping.StepEnd.TheVariants.{Went, Exited, Trapped}
+use Rattle.scale_base.specs.Image.{Image, loaded_byte}
+use Rattle.scale_base.specs.Layout.{layout_of, in_text, is_keyed}
+use Rattle.scale_base.specs.State.{Setting, State}
+use Rattle.scale_base.specs.Step.{Outcome, step}
+use Rattle.scale_base.specs.Run.{Run, Standing, GoesOn, HasExited, HasTrapped, STACK_POINTER, begin, ended, one_more_by, one_more, run, run_of, setting_of, start_of, starting_level}
+use Rattle.scale_base.specs.Run as runs
+use Rattle.scale_base.proofs.Laws.{run_step}
+use Rattle.graph_runs.proofs.Laws.{went_at}
+use Rattle.stored_runs.specs.Meaning.{StepsLead}
+use Rattle.stored_runs.proofs.Laws.{leads_none, leads_first, leads_on, laid, byte_seen, hidden}
+use Rattle.loop_versions.specs.declared.pieces.Piece.{Piece}
+use Rattle.loop_versions.specs.declared.pieces.Site.{Site}
+use Rattle.loop_versions.specs.Fitting.{origin}
+use Rattle.loop_versions.specs.Follows.{in_block, StaysOutside, AreSameStates, IsSoFar, is_extra_step, FollowsVersioned}
+use Rattle.version_laws.proofs.Words.{IsWord, AreWords}
+use Rattle.version_laws.proofs.Frame.{IsFrame}
+use Rattle.version_laws.proofs.States as states
+use Rattle.version_laws.proofs.Legs as legs
+use Rattle.version_laws.proofs.Legs.{EndsAlike}
+
+-- ---- the steps of a longer run
+
+front_of : (P : Stepped → Type 0) (xs : List Stepped) (e : StepEnd) (u : State) → All P (ended xs e u).steps → All P xs
+front_of P xs (Went x) u h = (All-pop P (xs ++ x ∷ []) xs (Some x) refl h).0
+front_of P xs (Exited x status) u h = (All-pop P (xs ++ x ∷ []) xs (Some x) refl h).0
+front_of P xs (Trapped trap) u h = h
+
+front : (P : Stepped → Type 0) (env : Setting) (r : Run) (standing : Standing) → All P (one_more_by env r standing).steps → All P r.steps
+front P env r GoesOn h = front_of P r.steps (step env r.state).end (step env r.state).state h
+front P env r (HasExited status) h = h
+front P env r (HasTrapped trap) h = h
+
+last : (P : Stepped → Type 0) (xs : List Stepped) (x : Stepped) → All P (xs ++ x ∷ []) → P x
+last P xs x h = (All-pop P (xs ++ x ∷ []) xs (Some x) refl h).1
+
+-- ---- the classes of steps
+
+abbrev classes_of : List Stepped → List Class
+classes_of xs = map (λ (x : Stepped). x.class) xs
+
+classes_on : (xs ys : List Stepped) → classes_of (xs ++ ys) ≡ classes_of xs ++ classes_of ys
+classes_on [] ys = refl
+classes_on (x ∷ xs) ys = ap (λ (zs : List Class). x.class ∷ zs) (classes_on xs ys)
+
+-- steps that are passed over
+none_left : (p : Stepped → Bool) (xs : List Stepped) → All (λ x. p x ≡ true) xs → filter (λ x. not (p x)) xs ≡ []
+none_left p [] h = refl
+none_left p (x ∷ xs) h =
+    let one : not (p x) ≡ false = ap not (All-head (λ x. p x ≡ true) x xs h) in
+    let rest = none_left p xs (All-tail (λ x. p x ≡ true) x xs h) in
+    cond-false (not (p x)) (x ∷ filter (λ x. not (p x)) xs) (filter (λ x. not (p x)) xs) one ∙ rest
+
+one_left : (p : Stepped → Bool) (x : Stepped) → p x ≡ false → filter (λ x. not (p x)) (x ∷ []) ≡ x ∷ []
+one_left p x h = cond-true (not (p x)) (x ∷ []) [] (ap not h)
+
+abbrev left_of : (Stepped → Bool) → List Stepped → List Class
+left_of p xs = classes_of (filter (λ x. not (p x)) xs)
+
+left_on : (p : Stepped → Bool) (xs ys : List Stepped) → left_of p (xs ++ ys) ≡ left_of p xs ++ left_of p ys
+left_on p xs ys = ap classes_of (filter-append (λ x. not (p x)) xs ys) ∙ classes_on (filter (λ x. not (p x)) xs) (filter (λ x. not (p x)) ys)
+
+-- with some more that are passed over, and one that isn't
+left_more : (p : Stepped → Bool) (xs es raw : List Stepped) (x y : Stepped) → left_of p xs ≡ classes_of raw → All (λ x. p x ≡ true) es → p y ≡ false → y.class ≡ x.class → left_of p (xs ++ (es ++ y ∷ [])) ≡ classes_of (raw ++ x ∷ [])
+left_more p xs es raw x y same extra real class =
+    left_on p xs (es ++ y ∷ [])
+    ∙ (ap (λ (zs : List Class). left_of p xs ++ zs) (left_on p es (y ∷ []))
+    ∙ (ap (λ (zs : List Stepped). left_of p xs ++ (classes_of zs ++ left_of p (y ∷ []))) (none_left p es extra)
+    ∙ (ap (λ (zs : List Stepped). left_of p xs ++ classes_of zs) (one_left p y real)
+    ∙ (ap (λ (zs : List Class). zs ++ y.class ∷ []) same
+    ∙ (ap (λ (c : Class). classes_of raw ++ c ∷ []) class
+    ∙ sym (classes_on raw (x ∷ [])))))))
+
+left_extra : (p : Stepped → Bool) (xs es raw : List Stepped) → left_of p xs ≡ classes_of raw → All (λ x. p x ≡ true) es → left_of p (xs ++ es) ≡ classes_of raw
+left_extra p xs es raw same extra =
+    left_on p xs es
+    ∙ (ap (λ (zs : List Stepped). left_of p xs ++ classes_of zs) (none_left p es extra)
+    ∙ (append-nil (left_of p xs) ∙ same))
+
+module _ (image versioned : Image) (pieces : List Piece) (sites : List Site) (base levels : ℕ) (input : List ℕ) (f : IsFrame image versioned pieces sites base levels input) (small : All (λ b. b < 256) input) where
+  abbrev one : Setting
+  one = setting_of image levels input
+
+  abbrev other : Setting
+  other = setting_of versioned levels input
+
+  abbrev up : ℕ → State → State
+  up v s = states.up image versioned pieces sites base levels input f v s
+
+  abbrev IsRaw : State → Type 0
+  IsRaw s = states.IsRaw image versioned pieces sites base levels input f s
+
+  abbrev in_code : ℕ → Bool
+  in_code v = in_block image versioned pieces sites base v
+
+  abbrev is_extra : Stepped → Bool
+  is_extra x = is_extra_step image versioned pieces sites base x
+
+  abbrev AreOutside : List Stepped → Type 0
+  AreOutside xs = All (λ x. in_code x.next ≡ false) xs
+
+  abbrev Follows : Run → Run → Type 0
+  Follows raw own = FollowsVersioned image versioned pieces sites base raw own
+
+  -- the versioned run up to a step of the original one that goes on
+  record IsGoing (r : Run) : Type 0 where
+    v : ℕ
+    stands : origin pieces base v ≡ r.state.pc
+    steps : List Stepped
+    goes_on : r.standing ≡ GoesOn
+    leads : StepsLead other (start_of versioned levels) steps (up v r.state)
+    raw : IsRaw r.state
+    outside : in_code r.state.pc ≡ false
+    classes : left_of is_extra steps ≡ classes_of r.steps
+
+  -- and where that has ended
+  record IsOver (r : Run) : Type 0 where
+    stays : one_more one r ≡ r
+    after : ℕ
+    followed : Follows r (run other (start_of versioned levels) after)
+
+  -- ---- the start
+
+  starts_alike : start_of versioned levels ≡ up image.entry (start_of image levels)
+  starts_alike =
+      let bytes : loaded_byte versioned ≡ laid (hidden versioned) (loaded_byte versioned) (loaded_byte image) = fun_ext (λ a. by_hidden a (hidden versioned a) refl) in
+      ap (λ pc. runs.start (loaded_byte versioned) pc (starting_level levels versioned.keyed_segment)) f.entry
+      ∙ (ap (λ level. runs.start (loaded_byte versioned) image.entry level) f.start_is
+      ∙ ap (λ b. runs.start b image.entry (starting_level levels image.keyed_segment)) bytes)
+    where
+      by_hidden : (a : ℕ) (b : Bool) → hidden versioned a ≡ b → loaded_byte versioned a ≡ cond (hidden versioned a) (loaded_byte versioned a) (loaded_byte image a)
+      by_hidden a true e = sym (cond-true (hidden versioned a) (loaded_byte versioned a) (loaded_byte image a) e)
+      by_hidden a false e = f.outside a e ∙ sym (cond-false (hidden versioned a) (loaded_byte versioned a) (loaded_byte image a) e)
+
+  first_words : AreWords (slice_set (replicate 32 0) 2 STACK_POINTER)
+  first_words = All-set IsWord (replicate 32 0) 2 STACK_POINTER (omega arith) (All-replicate IsWord 32 0 (omega arith))
+
+  entry_outside : in_code image.entry ≡ false
+  entry_outside = f.off_text image.entry f.entry_in
+
+  begins : IsGoing (begin (start_of image levels))
+  begins = record {
+    v = image.entry;
+    stands = states.origin_none image versioned pieces sites base levels input f image.entry (f.no_piece image.entry entry_outside).0;
+    steps = [];
+    goes_on = refl;
+    leads = subst (λ s. StepsLead other (start_of versioned levels) [] s) starts_alike (leads_none other (start_of versioned levels));
+    raw = record {
+      text = λ a h. refl;
+      regs = refl;
+      zero = refl;
+      window = refl;
+      words = first_words;
+      bytes = f.bytes;
+    };
+    outside = entry_outside;
+    classes = refl;
+  }
+
+  -- ---- one step more
+
+  went_on : (r : Run) (g : IsGoing r) (l : states.IsLed image versioned pieces sites base levels input f r.state g.v) (p : legs.IsPassed image versioned pieces sites base levels input f r.state l.to) → in_code p.x.next ≡ false → IsGoing (ended r.steps (step one r.state).end (step one r.state).state)
+  went_on r g l p outside =
+      let end_is : (step one r.state).end ≡ Went p.x = ap (λ (o : Outcome). o.end) p.step_is in
+      let next : p.u.pc ≡ p.x.next = sym (ap (λ (o : Outcome). o.state.pc) p.step_is) ∙ (went_at one r.state p.x end_is).1 in
+      let on : StepsLead other (up l.to r.state) (p.y ∷ []) (up p.next p.u) = leads_first other (up l.to r.state) (up p.next p.u) (up p.next p.u) p.y [] p.step_too (leads_none other (up p.next p.u)) in
+      let there : StepsLead other (up g.v r.state) (l.steps ++ p.y ∷ []) (up p.next p.u) = leads_on other (up g.v r.state) (up l.to r.state) (up p.next p.u) l.steps (p.y ∷ []) l.leads on in
+      let real = legs.real_step image versioned pieces sites base levels input f r.state l.to p.y g.outside l.stands l.real p.here in
+      let to : IsGoing (record { steps = r.steps ++ p.x ∷ []; state = p.u; standing = GoesOn }) = record {
+        v = p.next;
+        stands = p.stands outside;
+        steps = g.steps ++ (l.steps ++ p.y ∷ []);
+        goes_on = refl;
+        leads = leads_on other (start_of versioned levels) (up g.v r.state) (up p.next p.u) g.steps (l.steps ++ p.y ∷ []) g.leads there;
+        raw = states.raw_next image versioned pieces sites base levels input f small r.state p.u p.x g.raw p.step_is p.fetched;
+        outside = ap in_code next ∙ outside;
+        classes = left_more is_extra g.steps l.steps r.steps p.x p.y g.classes l.extra real p.class;
+      } in
+      subst IsGoing (sym (ap (λ (o : Outcome). ended r.steps o.end o.state) p.step_is)) to
+
+  came_to_end : (r : Run) (g : IsGoing r) (l : states.IsLed image versioned pieces sites base levels input f r.state g.v) (e : StepEnd) (u : State) (h : StepEnd) (t : State) → step other (up l.to r.state) ≡ record { end = h; state = t } → t.output ≡ u.output → EndsAlike l.to e h → IsOver (ended r.steps e u)
+  came_to_end r g l (Exited x status) u (Exited y other_status) t is_too output alike =
+      let xs : List Stepped = g.steps ++ l.steps in
+      let led : StepsLead other (start_of versioned levels) (g.steps ++ l.steps) (up l.to r.state) = leads_on other (start_of versioned levels) (up g.v r.state) (up l.to r.state) g.steps l.steps g.leads l.leads in
+      let ran : run other (start_of versioned levels) (length (g.steps ++ l.steps) + 1) ≡ record { steps = (g.steps ++ l.steps) ++ y ∷ []; state = t; standing = HasExited other_status } =
+      run_step other (start_of versioned levels) (up l.to r.state) (length (g.steps ++ l.steps)) (g.steps ++ l.steps) led ∙ ap (λ (o : Outcome). ended (g.steps ++ l.steps) o.end o.state) is_too in
+      let raw : Run = record { steps = r.steps ++ x ∷ []; state = u; standing = HasExited status } in
+      let real = legs.real_step image versioned pieces sites base levels input f r.state l.to y g.outside l.stands l.real alike.2 in
+      record {
+        stays = refl;
+        after = length (g.steps ++ l.steps) + 1;
+        followed = subst (Follows raw) (sym ran) (record {
+          standing = (ap HasExited alike.0, output);
+          classes = ap (λ (zs : List Stepped). left_of is_extra zs) (append_assoc g.steps l.steps (y ∷ [])) ∙ left_more is_extra g.steps l.steps r.steps x y g.classes l.extra real alike.1;
+        });
+      }
+  came_to_end r g l (Trapped trap) u (Trapped other_trap) t is_too output alike =
+      let led : StepsLead other (start_of versioned levels) (g.steps ++ l.steps) (up l.to r.state) = leads_on other (start_of versioned levels) (up g.v r.state) (up l.to r.state) g.steps l.steps g.leads l.leads in
+      let ran : run other (start_of versioned levels) (length (g.steps ++ l.steps) + 1) ≡ record { steps = g.steps ++ l.steps; state = t; standing = HasTrapped other_trap } =
+      run_step other (start_of versioned levels) (up l.to r.state) (length (g.steps ++ l.steps)) (g.steps ++ l.steps) led ∙ ap (λ (o : Outcome). ended (g.steps ++ l.steps) o.end o.state) is_too in
+      let raw : Run = record { steps = r.steps; state = u; standing = HasTrapped trap } in
+      record {
+        stays = refl;
+        after = length (g.steps ++ l.steps) + 1;
+        followed = subst (Follows raw) (sym ran) (record {
+          standing = (alike, output);
+          classes = left_extra is_extra g.steps l.steps r.steps g.classes l.extra;
+        });
+      }
+  came_to_end r g l e u h t is_too output alike = absurd alike
+
+  ended_now : (r : Run) (g : IsGoing r) (l : states.IsLed image versioned pieces sites base levels input f r.state g.v) → legs.IsEnded image versioned pieces sites base levels input f r.state l.to → IsOver (ended r.steps (step one r.state).end (step one r.state).state)
+  ended_now r g l e = subst IsOver (sym (ap (λ (o : Outcome). ended r.steps o.end o.state) e.ends)) (came_to_end r g l e.end e.u e.end_too e.u_too e.ends_too e.output e.alike)
+
+  more : (r : Run) (g : IsGoing r) → AreOutside (one_more one r).steps → IsGoing (one_more one r) ⊎ IsOver (one_more one r)
+  more r g outside =
+      let next : one_more one r ≡ ended r.steps (step one r.state).end (step one r.state).state = ap (one_more_by one r) g.goes_on in
+      let l = states.leads_there image versioned pieces sites base levels input f r.state g.v g.raw g.stands in
+      elim (legs.passes image versioned pieces sites base levels input f r.state l.to g.raw g.outside l.stands l.real) [
+        | inl p ↦
+            let all : AreOutside (r.steps ++ p.x ∷ []) = subst (λ (q : Run). AreOutside q.steps) (next ∙ ap (λ (o : Outcome). ended r.steps o.end o.state) p.step_is) outside in
+            inl (subst IsGoing (sym next) (went_on r g l p (last (λ x. in_code x.next ≡ false) r.steps p.x all)))
+        | inr e ↦ inr (subst IsOver (sym next) (ended_now r g l e))
+      ]
+
+  -- ---- by the number of steps
+
+  less : (n : ℕ) → StaysOutside image versioned pieces sites base levels input (suc n) → StaysOutside image versioned pieces sites base levels input n
+  unfolding run_of run
+  less n h = let r = run one (start_of image levels) n in front (λ x. in_code x.next ≡ false) one r r.standing h
+
+  follows : (n : ℕ) → StaysOutside image versioned pieces sites base levels input n → IsGoing (run_of image levels input n) ⊎ IsOver (run_of image levels input n)
+  unfolding run_of run
+  follows zero keeps = inl begins
+  follows (suc n) keeps = elim (follows n (less n keeps)) [
+    | inl g ↦ more (run one (start_of image levels) n) g keeps
+    | inr over ↦ inr (subst IsOver (sym over.stays) over)
+  ]
+
+  same_states : (s : State) (v : ℕ) → IsRaw s → origin pieces base v ≡ s.pc → AreSameStates image versioned pieces sites base s (up v s)
+  same_states s v raw stands = record {
+    pc = stands;
+    regs = refl;
+    bytes = λ a text text_too. byte_seen (hidden versioned) (loaded_byte versioned) s.bytes a (seen_if a text_too);
+    window = sym raw.window;
+    used = refl;
+    output = refl;
+  }
+    where
+      seen_if : (a : ℕ) → in_text (layout_of versioned) a ≡ false → hidden versioned a ≡ false
+      seen_if a text = ap (λ b. b || is_keyed (layout_of versioned) a) text ∙ f.keyless_too a
+
+  going_is_followed : (r : Run) (g : IsGoing r) → Follows r (run other (start_of versioned levels) (length g.steps))
+  going_is_followed r g =
+      let own : Run = record { steps = g.steps; state = up g.v r.state; standing = GoesOn } in
+      let so_far : IsSoFar image versioned pieces sites base r own GoesOn = (refl, same_states r.state g.v g.raw g.stands) in
+      subst (Follows r) (sym g.leads) (record {
+        standing = subst (IsSoFar image versioned pieces sites base r own) (sym g.goes_on) so_far;
+        classes = g.classes;
+      })
+
+  -- the run of each image with such a frame is followed
+  pub frame_follows : (n : ℕ) → StaysOutside image versioned pieces sites base levels input n → (m : ℕ) × FollowsVersioned image versioned pieces sites base (run_of image levels input n) (run_of versioned levels input m)
+  unfolding run_of
+  frame_follows n keeps = elim (follows n keeps) [
+    | inl g ↦ (length g.steps, going_is_followed (run_of image levels input n) g)
+    | inr over ↦ (over.after, over.followed)
+  ]

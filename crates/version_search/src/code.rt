@@ -1,0 +1,210 @@
+//! The code and the loops that are searched.
+
+ghost use Rattle.std.specs.Prelude.{◌≡◌, ◌<◌, length, Ok};
+ghost use Rattle.scale_base.specs.Image.{image_of};
+
+use code_text::instr_at;
+use elf_image::ImageView;
+use flow_graph::CodeGraph;
+use loop_forest::LoopTree;
+use scale_base::{Edge, Instr, NoMemory};
+use std::alloc::Global;
+
+/// An image, its graph and its loops; and by node, how many loops are round it, and how many edges lead to it.
+#[derive(Drop)]
+pub struct Code<'a> {
+    pub view: &'a ImageView<'a>,
+    graph: &'a CodeGraph,
+    tree: &'a LoopTree,
+    depths: Vec<u32>,
+    arrivals: Vec<u32>,
+}
+
+// The instruction at an address. Where there is none, nothing goes on.
+fn instr_or_end(view: &ImageView<'_>, at: u32) -> Instr {
+    let _ranges = view.text();
+    match instr_at(view, at) {
+        Some(instr) => instr,
+        None => Instr::Ebreak,
+    }
+}
+
+// By node, how many loops are round it.
+fn depths_of(alloc: Global, graph: &CodeGraph, tree: &LoopTree) -> Result<Vec<u32>, NoMemory> {
+    let mut depths = vec![in alloc; 0; graph.node_count()]?;
+    for l in 0..tree.loop_count() {
+        add_body(&mut depths, tree.body(l));
+    }
+    Ok(depths)
+}
+
+// By node, how many edges lead to it.
+fn arrivals_of(alloc: Global, graph: &CodeGraph) -> Result<Vec<u32>, NoMemory> {
+    let mut arrivals = vec![in alloc; 0; graph.node_count()]?;
+    for target in graph.targets() {
+        if let Some(k) = target {
+            add_arrival(&mut arrivals, *k);
+        }
+    }
+    Ok(arrivals)
+}
+
+fn add_arrival(arrivals: &mut [u32], k: usize) {
+    if k < arrivals.len() {
+        arrivals[k] = arrivals[k].saturating_add(1);
+    }
+}
+
+fn add_body(depths: &mut [u32], body: &[usize]) {
+    for k in body {
+        if *k < depths.len() {
+            depths[*k] = depths[*k].saturating_add(1);
+        }
+    }
+}
+
+impl<'a> Code<'a> {
+    pub fn new(
+        alloc: Global,
+        view: &'a ImageView<'a>,
+        graph: &'a CodeGraph,
+        tree: &'a LoopTree,
+    ) -> Result<Code<'a>, NoMemory> {
+        let depths = depths_of(alloc, graph, tree)?;
+        let arrivals = arrivals_of(alloc, graph)?;
+        Ok(Code {
+            view,
+            graph,
+            tree,
+            depths,
+            arrivals,
+        })
+    }
+
+    pub fn loop_count(&self) -> usize {
+        self.tree.loop_count()
+    }
+
+    /// The nodes of a loop, ascending.
+    pub fn body(&self, l: usize) -> &'a [usize] {
+        let tree = self.tree;
+        if l < tree.loop_count() {
+            tree.body(l)
+        } else {
+            &[]
+        }
+    }
+
+    /// How many back edges an entry of a loop may take.
+    pub fn bound(&self, l: usize) -> u32 {
+        if l < self.tree.loop_count() {
+            self.tree.bound(l)
+        } else {
+            0
+        }
+    }
+
+    /// The loop round a loop.
+    pub fn parent(&self, l: usize) -> Option<usize> {
+        if l < self.tree.loop_count() {
+            self.tree.parent(l)
+        } else {
+            None
+        }
+    }
+
+    pub fn is_in_body(&self, l: usize, k: usize) -> bool {
+        l < self.tree.loop_count() && self.tree.in_body(l, k)
+    }
+
+    /// The node of a loop's header.
+    fn header(&self, l: usize) -> usize {
+        if l < self.tree.loop_count() {
+            self.tree.header(l)
+        } else {
+            0
+        }
+    }
+
+    /// The address of a loop's header.
+    pub fn header_at(&self, l: usize) -> u32 {
+        self.address(self.header(l))
+    }
+
+    /// Whether a node of a loop is in none of the loops within it.
+    pub fn is_outermost(&self, l: usize, k: usize) -> bool {
+        self.depths.get(k) == self.depths.get(self.header(l))
+    }
+
+    /// The address of a node.
+    pub fn address(&self, k: usize) -> u32 {
+        if k < self.graph.node_count() {
+            self.graph.node(k)
+        } else {
+            0
+        }
+    }
+
+    /// The node at an address.
+    pub fn find(&self, at: u32) -> Option<usize> {
+        self.graph.find(at)
+    }
+
+    /// The node in front of a node, if each way to the latter leads over it, and calls nothing.
+    pub fn before(&self, k: usize) -> Option<usize> {
+        let before = k.checked_sub(1)?;
+        let follows = self.address(before).wrapping_add(4) == self.address(k);
+        let leads = !matches!(self.instr(before), Instr::Jal { .. } | Instr::Jalr { .. });
+        if follows && leads && self.arrivals.get(k) == Some(&1) {
+            Some(before)
+        } else {
+            None
+        }
+    }
+
+    /// The instruction of a node.
+    pub fn instr(&self, k: usize) -> Instr {
+        self.instr_at(self.address(k))
+    }
+
+    /// The instruction at an address.
+    pub fn instr_at(&self, at: u32) -> Instr {
+        instr_or_end(self.view, at)
+    }
+
+    // The node to which an edge leads.
+    fn target(&self, e: usize) -> Option<usize> {
+        if e < self.graph.edge_count() {
+            self.graph.target(e)
+        } else {
+            None
+        }
+    }
+
+    /// Whether one of the two ways of a node leads out of a loop, and one doesn't.
+    pub fn leaves_by_one(&self, l: usize, k: usize) -> bool {
+        if k >= self.graph.node_count() {
+            return false;
+        }
+        let (first, _) = self.graph.edges_of(k);
+        match (self.target(first), self.target(first.saturating_add(1))) {
+            (Some(one), Some(other)) => self.is_in_body(l, one) != self.is_in_body(l, other),
+            _ => false,
+        }
+    }
+
+    pub fn edge_count(&self) -> usize {
+        self.graph.edge_count()
+    }
+
+    /// An edge that leads from outside a loop to its header.
+    pub fn entering(&self, l: usize, e: usize) -> Option<Edge> {
+        if e >= self.graph.edge_count() || self.target(e) != Some(self.header(l)) {
+            return None;
+        }
+        if self.is_in_body(l, self.graph.source(e)) {
+            return None;
+        }
+        Some(self.graph.edge(e))
+    }
+}

@@ -1,0 +1,11 @@
+//! Tests of the calls of the crates that propose and make versions of loops.
+#![tactic(auto)]
+
+#[cfg(test)]
+mod programs;
+#[cfg(test)]
+mod proposals;
+#[cfg(test)]
+mod runs;
+#[cfg(test)]
+mod versions;

@@ -1,0 +1,20 @@
+//! What is made.
+
+/// The file of a versioned image, and how many instructions its pieces have.
+#[derive(Drop)]
+pub struct Made {
+    pub file: Vec<u8>,
+    pub words: u32,
+}
+
+/// An image in which the loop with this header is there twice. The copy runs where the register `larger` less `smaller` is from 0 on and below
+/// the limit, as a signed number, when the loop is entered. So many instructions are added.
+#[derive(Drop)]
+pub struct Version {
+    pub header: u32,
+    pub larger: u8,
+    pub smaller: u8,
+    pub limit: u32,
+    pub words: u32,
+    pub file: Vec<u8>,
+}
