@@ -59,20 +59,20 @@ def check_large(scale, pace, folder):
 
 
 def versioned(pace, folder):
-    """What `all --versions` prints for the program of the cases, whose files stand in the folder then."""
+    """What `all` prints for the program of the cases, whose files stand in the folder then."""
     read_in = cases.read_all(os.path.join(TOP, "crates", "pace_tool", "cases"), "pace")[2]
     shelf = next(reader.shelf for reader in read_in if os.path.basename(reader.path) == "versions.txt")
     for name, phrase in (("p.elf", "divide-each"), ("m", "m-1800"), ("ten", "ten"), ("forty", "forty")):
         with open(os.path.join(folder, name), "wb") as file:
             file.write(shelf.bytes(phrase))
-    return run(pace, folder, "all", "p.elf", "m", "out", "ten", "forty", "--versions")
+    return run(pace, folder, "all", "p.elf", "m", "out", "ten", "forty")
 
 
 def check_versions(scale, pace, folder):
     """What is wrong of the runs of an image in which a loop is there twice, on inputs of each length."""
     done = versioned(pace, folder)
     if done.returncode != 0 or b"\nversion 0x" not in done.stdout:
-        yield "pace all --versions: status %d, %r" % (done.returncode, done.stdout)
+        yield "pace all: status %d, %r" % (done.returncode, done.stdout)
         return
     for length in range(41):
         with open(os.path.join(folder, "input"), "wb") as file:

@@ -10,8 +10,8 @@ nothing counts is told and left out.
 
 Deadlines are 1.5, 2.5 and 3.0 times the worst cycles; levels take 4, 2 and 1 time units and 1, 3 and 8 energy units a cycle, a switch takes 10 and 20. Images are fitted to
 the first and the third input. For each deadline there is the geometric mean of the energies over those of `hold`, and the greatest, on the inputs that were fitted to together and
-on each of the others. A run that breaks the promise is told, as by `fit.py`, and the status is 1. With `--versions`, images are those of `pace all --versions` where no loop is open
-in the draft, and it is told how many have a loop twice.
+on each of the others. A run that breaks the promise is told, as by `fit.py`, and the status is 1. With `--versions`, images are those of `pace all` where no loop is open in the draft,
+and it is told how many have code twice.
 """
 
 import argparse
@@ -103,7 +103,7 @@ def fit(program, deadline):
     image, machine, loops = program.files()
     given = [program.path("fitted"), *(program.inputs[k] for k in FITTED)]
     if program.tools.versions and program.is_closed:
-        status, text = run(program.tools.pace, "all", image, machine, *given, "--versions")
+        status, text = run(program.tools.pace, "all", image, machine, *given)
     else:
         status, text = run(program.tools.pace, "fit", image, machine, loops, *given)
     if status:

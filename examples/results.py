@@ -4,8 +4,8 @@
     results.py SCALE [PACE]
 
 Images are tuned and fitted on the inputs of odd numbers, and run on those of even ones. Of these the table has the energy of the original at full speed, and what
-`hold`, `rewrite`, `tune` and, where PACE is given, `pace fit` take of it, in percent; and what one takes at least who knows each run's cycles beforehand, mixes any
-two levels and pays nothing for switches.
+`hold`, `rewrite`, `tune` and, where PACE is given, `pace fit` and `pace all` take of it, in percent; and what one takes at least who knows each run's cycles beforehand,
+mixes any two levels and pays nothing for switches. `pace all` has no loop file: where a loop stays open it says so.
 """
 
 import math
@@ -44,6 +44,21 @@ def least(cycles, machine):
     return math.floor(min(found))
 
 
+def taken(scale, original, made, machine, given):
+    """The energy of the runs of an image, which have the output of the original and are in time."""
+    energy = 0
+    for name in given:
+        outs, texts = [], []
+        for image in (original, made):
+            texts.append(run(scale, "simulate", image, machine, name, made + ".out"))
+            with open(made + ".out", "rb") as file:
+                outs.append(file.read())
+        with open(machine, "rb") as file:
+            assert number(texts[1], "time") <= tomllib.load(file)["deadline"] and outs[0] == outs[1], name
+        energy += number(texts[1], "energy")
+    return energy
+
+
 def row(scale, pace, example, folder):
     """The row of an example."""
     at = lambda *names: os.path.join(EXAMPLES, example, *names)  # noqa: E731
@@ -67,13 +82,17 @@ def row(scale, pace, example, folder):
         survey = run(scale, "survey", image, out, at("machine.toml"), at("loops.toml"), *new)
         assert number(survey, "late") == 0 and number(survey, "differ") == 0, example
         cells.append("%.1f" % (100 * number(survey, "energy") / full))
+    if pace:
+        made = os.path.join(folder, "all")
+        stored = run(pace, "all", original, at("machine.toml"), made, *fitted) is not None
+        cells.append("%.1f" % (100 * taken(scale, original, made, at("machine.toml"), new) / full) if stored else "open")
     bound = sum(least(number(text, "cycles"), machine) for text in runs)
     return f"| {example} | {full} | {' | '.join(cells)} | {100 * bound / full:.1f} |"
 
 
 def main():
     scale, pace = [*sys.argv[1:], None][:2]
-    print("| example | original | hold | rewrite | tune |" + (" fit |" if pace else "") + " least |")
+    print("| example | original | hold | rewrite | tune |" + (" fit | all |" if pace else "") + " least |")
     for example in ALL:
         with tempfile.TemporaryDirectory(prefix="scale-results-") as folder:
             print(row(scale, pace, example, folder))

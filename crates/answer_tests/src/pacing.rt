@@ -1,7 +1,7 @@
 //! Images whose switches stand on chosen edges.
 
 use crate::fixtures::*;
-use paced_images::{KeptMarks, Proposal, SwitchSite, pace, pace_useful, useful_marks};
+use paced_images::{ChosenMarks, KeptMarks, Proposal, SwitchSite, pace, pace_useful, useful_marks};
 use scale_base::{EdgeKind, Stop, Summary};
 use scale_report::{run_text, summary_text};
 use speed_sim::simulate;
@@ -50,7 +50,13 @@ fn paced(alloc: Global, files: &Files<'_>, marks: &Marks) -> Result<(Vec<u8>, Su
     if share > 4 {
         return Err(Stop::Memory);
     }
-    pace(alloc, image, machine, loops, sites, counted, tallied, share)
+    let chosen = ChosenMarks {
+        sites,
+        counted,
+        tallied,
+        share,
+    };
+    pace(alloc, image, machine, loops, &chosen)
 }
 
 /// Its bytes.
@@ -78,7 +84,13 @@ fn useful(alloc: Global, files: &Files<'_>, marks: &Marks) -> Result<KeptMarks, 
     if share > 4 {
         return Err(Stop::Memory);
     }
-    useful_marks(alloc, image, machine, loops, sites, counted, tallied, share)
+    let chosen = ChosenMarks {
+        sites,
+        counted,
+        tallied,
+        share,
+    };
+    useful_marks(alloc, image, machine, loops, &chosen)
 }
 
 /// How many sites and tallied loops of a program are of use.

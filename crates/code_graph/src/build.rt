@@ -17,14 +17,14 @@ use crate::recursion::call_order_of;
 use crate::refusals::{first_shared, least_refused, refusal_at};
 use elf_image::ImageView;
 use flow_graph::{CodeGraph, GraphLists};
-use scale_base::{NoMemory, Refusal, Stop};
+use scale_base::{NoMemory, Refusal, Stop, WORD_LIMIT};
 use std::alloc::Global;
 
 /// The reached words of the text of an image.
 fn reached_words(alloc: Global, view: &ImageView<'_>) -> Result<TextReach, NoMemory>
     ensures image { image_of view.now.file ≡ Ok view.now }
     ensures reach { IfOk result (λ reach. IsReachIn (text_of view.now) (reach_of reach)) }
-    ensures few { IfOk result (λ reach. length reach.words.addresses ≤ 131072) }
+    ensures few { IfOk result (λ reach. length reach.words.addresses ≤ WORD_LIMIT) }
 {
     // The ranges of a text ascend, and begin and end at multiples of 4.
     let _ranges = view.text();
@@ -35,7 +35,7 @@ fn reached_words(alloc: Global, view: &ImageView<'_>) -> Result<TextReach, NoMem
 fn graph_of(alloc: Global, view: &ImageView<'_>, reach: &TextReach) -> Result<CodeGraph, Stop>
     requires image { image_of view.now.file ≡ Ok view.now }
     requires reach { IsReachIn (text_of view.now) (reach_of reach.now) }
-    requires few { length reach.now.words.addresses ≤ 131072 }
+    requires few { length reach.now.words.addresses ≤ WORD_LIMIT }
     requires words { HasNoBadWord (kind_at (text_of view.now)) view.now.entry }
     requires apart { HasNoSharedCode (kind_at (text_of view.now)) view.now.entry }
     ensures { AnswersBy (λ graph. graph) result (IsBuilt (text_of view.now)) }

@@ -12,7 +12,7 @@ use crate::write::{
 use byteorder::{ByteOrder, LittleEndian};
 use elf_image::ImageView;
 use elf_view::program_header_count;
-use scale_base::{NoMemory, Patch};
+use scale_base::{BLOCK_LIMIT, IMAGE_LIMIT, NoMemory, Patch};
 use std::alloc::Global;
 
 const PT_LOAD: u32 = 1;
@@ -181,8 +181,8 @@ pub fn write_added(
     base: u32,
     block: &[u8],
 ) -> Result<Vec<u8>, NoMemory>
-    requires file { length view.now.file ≤ 4194304 }
-    requires block { length block.now ≤ 4194304 }
+    requires file { length view.now.file ≤ IMAGE_LIMIT }
+    requires block { length block.now ≤ BLOCK_LIMIT }
     ensures { IfOk result (λ out. out.items ≡ added.added_file view.now.file patches.now base block.now) }
 {
     let file = view.file();

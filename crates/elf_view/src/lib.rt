@@ -15,5 +15,4 @@ pub use elf_image::{ImageView, Segment};
 pub use reading::read_image;
 pub use refused::refusal_number;
 pub use scale_base::Keyed;
-pub use segments::{end_of, overlaps};
 pub use tables::{program_header_count, read_program_header};

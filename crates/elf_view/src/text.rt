@@ -11,7 +11,7 @@ ghost use Rattle.scale_base.specs.Elf as elf;
 ghost use Rattle.scale_base.specs.Image as image;
 
 use crate::ranges::{check_not_writable, insert_range, list_ranges, range_of};
-use crate::segments::{end_of, has_key};
+use crate::segments::has_key;
 use crate::tables::{has_section_headers, read_section_header, section_header_count};
 use elf_image::word;
 use scale_base::{PF_X, ProgramHeader, Range, Refusal, SectionHeader, Span, Stop, TextPart};
@@ -87,7 +87,7 @@ fn holds_part(part: &TextPart, header: &ProgramHeader) -> bool
     let first = u64::from(header.p_vaddr);
     is_code_segment(header)
         && header.p_vaddr <= part.span.from
-        && end_of(part.span) <= first + u64::from(header.p_filesz)
+        && part.span.end() <= first + u64::from(header.p_filesz)
         && u128::from(part.place) + u128::from(first)
             == u128::from(header.p_offset) + u128::from(part.span.from)
 }

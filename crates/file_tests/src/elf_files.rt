@@ -2,7 +2,6 @@
 
 use crate::fixtures::{PLAIN, SECTIONS, SYMBOLS, view_of};
 use elf_image::ImageView;
-use elf_view::{end_of, overlaps};
 use scale_base::{Range, Span};
 use std::alloc::Global;
 use std::process::Abort;
@@ -150,8 +149,8 @@ fn finds_symbols(rt: HostRuntime) -> Result<(), Fail> {
 #[test]
 fn spans_that_touch_do_not_overlap(rt: HostRuntime) {
     let low = Span { from: 0, len: 4 };
-    assert_eq!(rt; end_of(low), 4);
+    assert_eq!(rt; low.end(), 4);
     for (from, shared) in [(4, false), (3, true)] {
-        assert_eq!(rt; overlaps(low, Span { from, len: 4 }), shared);
+        assert_eq!(rt; low.overlaps(Span { from, len: 4 }), shared);
     }
 }

@@ -2,7 +2,6 @@
 
 ghost use Rattle.std.specs.Prelude.{◌≡◌, ◌&&◌, ◌||◌, not, map, IsTrue};
 ghost use Rattle.std.specs.List.{list_any};
-ghost use Rattle.scale_base.specs.Image as image;
 ghost use Rattle.scale_base.specs.Layout as rules;
 ghost use Rattle.flat_memory.specs.Lists.{list_bytes, list_layout};
 
@@ -10,18 +9,12 @@ use crate::block_list;
 use crate::list_memory::ListMemory;
 use crate::memory::Memory;
 use crate::text_ranges::in_text;
-use scale_base::{PF_R, PF_W, Range, STACK_LEN, STACK_START};
+use scale_base::{PF_R, PF_W, STACK_LEN, STACK_START};
 
 pub fn in_stack(at: u32) -> bool
     ensures { result ≡ rules.in_stack at }
 {
     at >= STACK_START && at < STACK_START + STACK_LEN
-}
-
-fn is_in(range: &Range, at: u32) -> bool
-    ensures { result ≡ image.is_in at range.now }
-{
-    range.from <= at && at < range.to
 }
 
 impl Memory for ListMemory {
@@ -64,7 +57,7 @@ impl Memory for ListMemory {
 
     fn is_keyed(&self, at: u32) -> bool {
         match &self.keyed {
-            Some(range) => is_in(range, at),
+            Some(range) => range.contains(at),
             None => false,
         }
     }

@@ -1,5 +1,6 @@
 -- Scaffold: what the lists of a CodeGraph keep.
 use Rattle.std.specs.Prelude.{◌≡◌, ℕ, ◌+◌, ◌<◌, ◌≤◌, List, length, map, slice_get, slice_index, Option}
+use Rattle.scale_base.specs.declared.limits.TheConstants.{WORD_LIMIT}
 use Rattle.scale_base.specs.declared.edges.Edge.{Edge}
 use Rattle.cost_theory.specs.Reached.{edge_at, callee_of}
 use Rattle.flow_graph.specs.declared.lists.GraphLists.{GraphLists}
@@ -29,9 +30,9 @@ pub record AreFirsts (n : ℕ) (nodes : List ℕ) (edges : List Edge) (firsts : 
 -- a graph of limited size, by node the function that is called, the numbers of the nodes' first edges, and the ends of edges
 pub record IsStoredGraph (v : FlowGraph) (callees : List (Option ℕ)) (firsts sources : List ℕ) (targets : List (Option ℕ)) : Type 0 where
   pub flow : IsFlowGraph v
-  pub few_nodes : length v.code.nodes ≤ 131072
+  pub few_nodes : length v.code.nodes ≤ WORD_LIMIT
   pub few_edges : length v.code.edges ≤ 262144
-  pub few_functions : length v.code.functions ≤ 131072
+  pub few_functions : length v.code.functions ≤ WORD_LIMIT
   pub kinds : length v.kinds ≡ length v.code.nodes
   pub owners : length v.code.owners ≡ length v.code.nodes
   pub callees_are : callees ≡ map (callee_of v.code.functions) v.kinds

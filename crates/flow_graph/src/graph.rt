@@ -18,7 +18,7 @@ use crate::lists::GraphLists;
 use crate::weights::{Weights, weights_of};
 use cost_theory::Flow;
 use power_model::Costs;
-use scale_base::{Edge, EdgeKind, NoMemory, Range};
+use scale_base::{Edge, EdgeKind, NoMemory, Range, WORD_LIMIT};
 use std::alloc::Global;
 use std::marker::Model;
 
@@ -69,7 +69,7 @@ impl CodeGraph {
     /// How many nodes there are. They are numbered by their addresses, which ascend.
     pub fn node_count(&self) -> usize
         ensures count { result ≡ length self.now.code.nodes }
-        ensures few { result ≤ 131072 }
+        ensures few { result ≤ WORD_LIMIT }
         ensures graph { IsFlowGraph self.now }
     {
         self.lists.nodes.len()
@@ -198,7 +198,7 @@ impl CodeGraph {
     /// How many functions there are.
     pub fn function_count(&self) -> usize
         ensures count { result ≡ length self.now.code.functions }
-        ensures few { result ≤ 131072 }
+        ensures few { result ≤ WORD_LIMIT }
         ensures some { 0 < result }
     {
         self.lists.functions.len()
@@ -241,7 +241,7 @@ impl CodeGraph {
     /// How many basic blocks there are. They ascend by their addresses.
     pub fn block_count(&self) -> usize
         ensures count { result ≡ length self.now.blocks }
-        ensures few { result ≤ 131072 }
+        ensures few { result ≤ WORD_LIMIT }
         ensures blocks { AreBlocks self.now self.now.blocks }
     {
         self.lists.blocks.len()

@@ -2,8 +2,9 @@
 use Rattle.std.proofs.Common.{◌≡◌, ℕ, ◌+◌, ◌<◌, ◌≤◌, Bool, true, false, ◌⊎◌, inl, inr, ⊎_elim, List, Option, Some, None, sym, ap, ◌∙◌, subst, arith}
 use Rattle.std.specs.Prelude.{slice_get, nat_le, IfSome, IfNone}
 use Rattle.std.proofs.lemmas.Bool.{cases_Bool, cases_lt, leb-true, leb-false, cond-true, cond-false}
+use Rattle.scale_base.specs.Least.{lesser_of}
 use Rattle.scale_base.specs.declared.ranges.Range.{Range}
-use Rattle.foreign_scan.specs.Least.{IsLeastBadOf, lesser_of, IsFromUpTo, IsInRanges}
+use Rattle.foreign_scan.specs.Least.{IsLeastBadOf, IsFromUpTo, IsInRanges}
 use Rattle.foreign_scan.specs.Scanned.{IsLeastAddress}
 
 differ : (b : Bool) (P : Type 0) → b ≡ false → b ≡ true → P

@@ -2,10 +2,11 @@
 use Rattle.std.proofs.Common.{◌≡◌, ℕ, true, not, ◌&&◌, ◌⊎◌, List, length, map, Option, ap, sym, subst}
 use Rattle.std.specs.Prelude.{◌==◌, IfSome, IfNone}
 use Rattle.std.proofs.lemmas.Bool.{and_parts, and_from, not-true, eqb-false, ne_eqb}
+use Rattle.scale_base.specs.Least.{lesser_of}
 use Rattle.scale_base.specs.declared.ranges.Range.{Range}
 use Rattle.scale_base.specs.Image.{Image, loaded_byte}
 use Rattle.scale_base.specs.Layout.{layout_of, is_keyed, in_text}
-use Rattle.foreign_scan.specs.Least.{IsLeastBadOf, IsInRanges, lesser_of, file_range, is_odd_byte}
+use Rattle.foreign_scan.specs.Least.{IsLeastBadOf, IsInRanges, file_range, is_odd_byte}
 use Rattle.foreign_scan.specs.Scanned.{IsOddByte, IsLeastAddress}
 use Rattle.foreign_scan.proofs.LeastLaws.{least_join, least_some, least_none}
 use Rattle.foreign_scan.proofs.LoadedLaws.{odd_in_some}

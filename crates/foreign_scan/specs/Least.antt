@@ -17,12 +17,6 @@ abbrev pub IsLeastBadOf : (ℕ → Bool) → (ℕ → Type 0) → Option ℕ →
 IsLeastBadOf bad Among None = (a : ℕ) → Among a → bad a ≡ false
 IsLeastBadOf bad Among (Some at) = (bad at ≡ true) × ((a : ℕ) → Among a → bad a ≡ true → at ≤ a)
 
--- the lesser of two addresses that may be missing
-abbrev pub lesser_of : Option ℕ → Option ℕ → Option ℕ
-lesser_of None b = b
-lesser_of (Some x) None = Some x
-lesser_of (Some x) (Some y) = if nat_le x y then Some x else Some y
-
 -- the addresses from one on up to another
 abbrev pub IsFromUpTo : ℕ → ℕ → ℕ → Type 0
 IsFromUpTo from end a = (from ≤ a) × (a < end)

@@ -7,11 +7,11 @@ ghost use Rattle.scale_base.specs.Layout as rules;
 ghost use Rattle.scale_base.specs.Layout.{layout_of};
 ghost use Rattle.scale_base.specs.State.{word_at};
 ghost use Rattle.elf_image.specs.Segment.{segment_value};
-ghost use Rattle.foreign_scan.specs.Least.{IsLeastBadOf, lesser_of, IsFromUpTo, IsInRanges, file_range, is_odd_byte};
+ghost use Rattle.foreign_scan.specs.Least.{IsLeastBadOf, IsFromUpTo, IsInRanges, file_range, is_odd_byte};
 ghost use Rattle.foreign_scan.specs.Scanned.{IsOddByte, IsLeastAddress};
 
 use elf_image::{ImageView, Segment};
-use scale_base::{Keyed, NoMemory, Range};
+use scale_base::{Keyed, NoMemory, Range, lesser};
 use std::alloc::Global;
 
 /// Whether the byte at this place of the file is loaded as zero.
@@ -111,17 +111,6 @@ fn odd_from(original: &ImageView<'_>, foreign: &ImageView<'_>, from: u32, end: u
         }
     }
     None
-}
-
-/// The lesser of two addresses that may be missing.
-pub fn lesser(a: Option<u32>, b: Option<u32>) -> Option<u32>
-    ensures { result ≡ lesser_of a b }
-{
-    match (a, b) {
-        (Some(x), Some(y)) => Some(x.min(y)),
-        (None, b) => b,
-        (a, None) => a,
-    }
 }
 
 /// The addresses of the file part of segment `k`.

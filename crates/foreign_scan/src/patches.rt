@@ -10,12 +10,12 @@ ghost use Rattle.foreign_scan.specs.Least as least;
 ghost use Rattle.foreign_scan.specs.Least.{IsLeastBadOf, IsFromUpTo, IsInRanges, goto_target, is_patchable, is_patch_at, is_bad_word};
 ghost use Rattle.foreign_scan.specs.Scanned as scanned;
 
-use crate::bytes::{is_keyed, lesser, word};
+use crate::bytes::{is_keyed, word};
 use crate::parts;
 use code_text::moved;
 use elf_image::ImageView;
 use rv_decode::decode;
-use scale_base::{Instr, Range};
+use scale_base::{Instr, Range, lesser};
 
 /// Whether the word at an address isn't the original's.
 pub fn is_changed(original: &ImageView<'_>, foreign: &ImageView<'_>, at: u32) -> bool

@@ -5,7 +5,7 @@ ghost use Rattle.scale_base.specs.Answer.{AnswersBy};
 ghost use Rattle.marked_images.specs.Promise.{IsStoredSafely};
 ghost use Rattle.gain_tuner.specs.Candidates.{IsCandidate};
 
-use scale_base::{Stop, Summary};
+use scale_base::{FILE_LIMIT, IMAGE_LIMIT, Stop, Summary};
 use scaler::rewrite_as;
 use std::alloc::Global;
 
@@ -26,9 +26,9 @@ pub fn candidate_of(
     loops: &[u8],
     number: u32,
 ) -> Result<(Vec<u8>, Summary), Stop>
-    requires image { length image.now ≤ 4194304 }
-    requires machine { length machine.now ≤ 1048576 }
-    requires loops { length loops.now ≤ 1048576 }
+    requires image { length image.now ≤ IMAGE_LIMIT }
+    requires machine { length machine.now ≤ FILE_LIMIT }
+    requires loops { length loops.now ≤ FILE_LIMIT }
     requires from { 1 ≤ number }
     requires to { number < 33 }
     ensures given { AnswersBy (λ given. (given.0.items, given.1)) result (IsCandidate image.now machine.now loops.now number) }

@@ -9,7 +9,7 @@ ghost use Rattle.gain_tuner.specs.Spending.{counts};
 use crate::candidates::candidate_of;
 use crate::spending::spent_over;
 use run_progress::{Part, Progress};
-use scale_base::{NoMemory, Stop, Summary};
+use scale_base::{FILE_LIMIT, IMAGE_LIMIT, NoMemory, Stop, Summary};
 use std::alloc::Global;
 
 /// How many candidates there are.
@@ -50,9 +50,9 @@ pub fn held_trial<P: Progress>(
     held: (Vec<u8>, Summary),
     progress: &mut P,
 ) -> Result<Trial, NoMemory>
-    requires image { length files.now.image.now ≤ 4194304 }
-    requires machine { length files.now.machine.now ≤ 1048576 }
-    requires loops { length files.now.loops.now ≤ 1048576 }
+    requires image { length files.now.image.now ≤ IMAGE_LIMIT }
+    requires machine { length files.now.machine.now ≤ FILE_LIMIT }
+    requires loops { length files.now.loops.now ≤ FILE_LIMIT }
     requires few { length files.now.inputs.now ≤ 64 }
     requires flags { files.now.flags.now ≡ map (λ input. counts files.now.image.now files.now.machine.now files.now.loops.now input.items)
         files.now.inputs.now }
@@ -109,9 +109,9 @@ fn trial_of<P: Progress>(
     candidate: u32,
     progress: &mut P,
 ) -> Result<Option<Trial>, NoMemory>
-    requires image { length files.now.image.now ≤ 4194304 }
-    requires machine { length files.now.machine.now ≤ 1048576 }
-    requires loops { length files.now.loops.now ≤ 1048576 }
+    requires image { length files.now.image.now ≤ IMAGE_LIMIT }
+    requires machine { length files.now.machine.now ≤ FILE_LIMIT }
+    requires loops { length files.now.loops.now ≤ FILE_LIMIT }
     requires few { length files.now.inputs.now ≤ 64 }
     requires flags { files.now.flags.now ≡ map (λ input. counts files.now.image.now files.now.machine.now files.now.loops.now input.items)
         files.now.inputs.now }
@@ -148,9 +148,9 @@ pub fn cheapest<P: Progress>(
     held: Trial,
     progress: &mut P,
 ) -> Result<Trial, NoMemory>
-    requires image { length files.now.image.now ≤ 4194304 }
-    requires machine { length files.now.machine.now ≤ 1048576 }
-    requires loops { length files.now.loops.now ≤ 1048576 }
+    requires image { length files.now.image.now ≤ IMAGE_LIMIT }
+    requires machine { length files.now.machine.now ≤ FILE_LIMIT }
+    requires loops { length files.now.loops.now ≤ FILE_LIMIT }
     requires few { length files.now.inputs.now ≤ 64 }
     requires flags { files.now.flags.now ≡ map (λ input. counts files.now.image.now files.now.machine.now files.now.loops.now input.items)
         files.now.inputs.now }

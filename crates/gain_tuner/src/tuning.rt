@@ -10,7 +10,7 @@ ghost use Rattle.gain_tuner.specs.Choice.{IsChoice, IsTuning};
 use crate::choosing::{CANDIDATES, Files, GivenFiles, Trial, cheapest, held_trial};
 use crate::spending::counting_of;
 use run_progress::{Part, Progress, Silent};
-use scale_base::{NoMemory, Stop, Summary, Tuned};
+use scale_base::{FILE_LIMIT, IMAGE_LIMIT, NoMemory, Stop, Summary, Tuned};
 use scaler::hold;
 use std::alloc::Global;
 
@@ -46,9 +46,9 @@ fn tune_held<P: Progress>(
     held: (Vec<u8>, Summary),
     progress: &mut P,
 ) -> Result<(Vec<u8>, Tuned), NoMemory>
-    requires image { length program.now.image.now ≤ 4194304 }
-    requires machine { length program.now.machine.now ≤ 1048576 }
-    requires loops { length program.now.loops.now ≤ 1048576 }
+    requires image { length program.now.image.now ≤ IMAGE_LIMIT }
+    requires machine { length program.now.machine.now ≤ FILE_LIMIT }
+    requires loops { length program.now.loops.now ≤ FILE_LIMIT }
     requires few { length program.now.inputs.now ≤ 64 }
     requires held { IsHeld program.now.image.now program.now.machine.now program.now.loops.now (Ok ((held.0.items, held.1))) }
     ensures choice { IfOk result (λ chosen. IsChoice program.now.image.now program.now.machine.now program.now.loops.now
@@ -77,12 +77,12 @@ pub fn tune_with_progress<P: Progress>(
     files: &GivenFiles<'_>,
     progress: &mut P,
 ) -> Result<(Vec<u8>, Tuned), Stop>
-    requires image { length files.now.image.now ≤ 4194304 }
-    requires machine { length files.now.machine.now ≤ 1048576 }
-    requires loops { length files.now.loops.now ≤ 1048576 }
+    requires image { length files.now.image.now ≤ IMAGE_LIMIT }
+    requires machine { length files.now.machine.now ≤ FILE_LIMIT }
+    requires loops { length files.now.loops.now ≤ FILE_LIMIT }
     requires some { 1 ≤ length files.now.inputs.now }
     requires few { length files.now.inputs.now ≤ 64 }
-    requires inputs { All (λ input. length input.items ≤ 1048576) files.now.inputs.now }
+    requires inputs { All (λ input. length input.items ≤ FILE_LIMIT) files.now.inputs.now }
     ensures tuned { AnswersBy (λ given. (given.0.items, given.1)) result (IsTuning files.now.image.now files.now.machine.now
         files.now.loops.now (map (λ input. input.items) files.now.inputs.now)) }
     ensures saves { IfOk result (λ given. given.1.energy ≤ given.1.hold_energy) }
@@ -109,12 +109,12 @@ pub fn tune(
     loops: &[u8],
     inputs: &[Vec<u8>],
 ) -> Result<(Vec<u8>, Tuned), Stop>
-    requires image { length image.now ≤ 4194304 }
-    requires machine { length machine.now ≤ 1048576 }
-    requires loops { length loops.now ≤ 1048576 }
+    requires image { length image.now ≤ IMAGE_LIMIT }
+    requires machine { length machine.now ≤ FILE_LIMIT }
+    requires loops { length loops.now ≤ FILE_LIMIT }
     requires some { 1 ≤ length inputs.now }
     requires few { length inputs.now ≤ 64 }
-    requires inputs { All (λ input. length input.items ≤ 1048576) inputs.now }
+    requires inputs { All (λ input. length input.items ≤ FILE_LIMIT) inputs.now }
     ensures tuned { AnswersBy (λ given. (given.0.items, given.1)) result (IsTuning image.now machine.now loops.now
         (map (λ input. input.items) inputs.now)) }
 

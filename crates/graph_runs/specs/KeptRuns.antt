@@ -1,6 +1,7 @@
 -- A kept run, and its transitions over the graph.
 use Rattle.std.specs.Prelude.{◌≡◌, ℕ, zero, suc, ◌<◌, ◌≤◌, List, length, map, Option, Some}
 use Rattle.std.specs.List.{sum_by}
+use Rattle.scale_base.specs.declared.limits.TheConstants.{RETURN_LIMIT}
 use Rattle.scale_base.specs.declared.stepping.Class.{Class}
 use Rattle.scale_base.specs.declared.stepping.StepEnd.{StepEnd}
 use Rattle.scale_base.specs.declared.stepping.StepEnd.TheVariants.{Went, Exited, Trapped}
@@ -70,7 +71,7 @@ pub record IsKeptRun (t : Text) (code : Code) (l : Loops) (costs : Class → ℕ
 
 -- so many return addresses a kept run carries at most
 abbrev pub most_returns : ℕ
-most_returns = 131072
+most_returns = RETURN_LIMIT
 
 -- The run of an image on a machine of so many levels, with an input, is kept up to n: each of its first n steps keeps the rules on
 -- calls, returns and loops, and after none of them there are more return addresses than a kept run carries.

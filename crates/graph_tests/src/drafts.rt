@@ -1,11 +1,13 @@
 //! Bounds that are filled in where a draft of a loop file has none. Whole drafts are data, `loops.txt` and `bounds.txt` of the second program's `cases`.
 
-use crate::loops::SIMPLE;
 use crate::programs::{expect_parts, image_of};
 use loop_drafts::{draft_loops, filled_text};
 use run_progress::Silent;
 use std::alloc::Global;
 use std::test::Fail;
+
+/// A jump to itself, behind another word.
+const FOR_EVER: [u32; 2] = [0x0000_0013, 0x0000_006F];
 
 /// The draft of a program with this bound where the code shows none.
 fn filled_draft(alloc: Global, words: &[u32], bound: u32) -> Result<String, Fail> {
@@ -18,6 +20,6 @@ fn filled_draft(alloc: Global, words: &[u32], bound: u32) -> Result<String, Fail
 
 #[test]
 fn bounds_are_filled_in_where_none_is_known(rt: HostRuntime) -> Result<(), Fail> {
-    let found = filled_draft(rt.alloc(), &SIMPLE, 12);
-    expect_parts(&rt, "simple", found, &["are known\nbound = 12\n"])
+    let found = filled_draft(rt.alloc(), &FOR_EVER, 12);
+    expect_parts(&rt, "for ever", found, &["are known\nbound = 12\n"])
 }

@@ -4,7 +4,7 @@ ghost use Rattle.std.specs.Prelude.{◌≡◌, ◌≤◌, length};
 
 use crate::programs::{expect_list, expect_same};
 use level_tables::{
-    LevelBudgets, entry, exit_rows, lowest_within, shift, tally_from_within, tally_shift, word,
+    EdgeNumbers, LevelBudgets, entry, exit_rows, shift, tally_from_within, tally_shift, word,
 };
 use power_model::{Costs, Level, Levels, PairTable, Power};
 use std::process::Abort;
@@ -219,7 +219,12 @@ fn goes_to_the_lowest_level_from_each(rt: HostRuntime) {
     let power = machine(PairTable::uniform(10));
     let alike = LevelBudgets::alike(28);
     for (slack, least, lowest) in &LOWEST {
-        let goes = lowest_within(&power, &alike, *slack, 10, *least);
+        let edge = EdgeNumbers {
+            slack: *slack,
+            left: 10,
+            least: *least,
+        };
+        let goes = edge.lowest_within(&power, &alike);
         expect_same(&rt, *slack, goes, *lowest);
     }
 }
@@ -267,7 +272,12 @@ static BUDGETS: [(LevelBudgets, u64, bool); 8] = [
 fn goes_to_the_lowest_level_within_budgets(rt: HostRuntime) {
     let power = machine(PairTable::uniform(10));
     for (budgets, slack, lowest) in &BUDGETS {
-        let goes = lowest_within(&power, budgets, *slack, 10, Some(10));
+        let edge = EdgeNumbers {
+            slack: *slack,
+            left: 10,
+            least: Some(10),
+        };
+        let goes = edge.lowest_within(&power, budgets);
         expect_same(&rt, *slack, goes, *lowest);
     }
 }
@@ -308,7 +318,12 @@ fn goes_to_the_lowest_level_from_a_count_on(rt: HostRuntime) {
     let power = machine(PairTable::uniform(10));
     let alike = LevelBudgets::alike(28);
     for (bound, iteration, slack, left, least, from) in &TALLIES {
-        let found = tally_from_within(&power, &alike, *bound, *iteration, *slack, *left, *least);
+        let edge = EdgeNumbers {
+            slack: *slack,
+            left: *left,
+            least: *least,
+        };
+        let found = tally_from_within(&power, &alike, *bound, *iteration, &edge);
         expect_same(&rt, *slack, found, *from);
     }
 }

@@ -26,7 +26,7 @@ const BACK_5: u32 = 0xFE00_06E3;
 type Places = (u8, u8, u8);
 
 /// Word 1 is the header of a loop with word 2.
-pub const SIMPLE: [u32; 5] = [NO_OPERATION, BRANCH_2, JUMP_BACK_1, EXIT, ECALL];
+const SIMPLE: [u32; 5] = [NO_OPERATION, BRANCH_2, JUMP_BACK_1, EXIT, ECALL];
 
 /// Words 0 to 3 turn back to word 0.
 const FROM_START: [u32; 6] = [

@@ -2,6 +2,9 @@
 
 ghost use Rattle.std.specs.Prelude.{◌≡◌, ◌≤◌, [], ◌∷◌, length};
 ghost use Rattle.std.specs.List.{AllZip};
+ghost use Rattle.scale_base.specs.declared.limits.TheConstants.{FILE_LIMIT, IMAGE_LIMIT};
+
+use scale_base::{FILE_LIMIT, IMAGE_LIMIT};
 
 /// The bytes of an image, a machine file and a loop file, each within its limit.
 #[derive(Clone, Copy)]
@@ -9,9 +12,9 @@ pub struct ProgramFiles<'a> {
     pub image: &'a [u8],
     pub machine: &'a [u8],
     pub loops: &'a [u8],
-    ghost short_image: { length image.now ≤ 4194304 },
-    ghost short_machine: { length machine.now ≤ 1048576 },
-    ghost short_loops: { length loops.now ≤ 1048576 },
+    ghost short_image: { length image.now ≤ IMAGE_LIMIT },
+    ghost short_machine: { length machine.now ≤ FILE_LIMIT },
+    ghost short_loops: { length loops.now ≤ FILE_LIMIT },
 }
 
 impl<'a> ProgramFiles<'a> {
@@ -19,7 +22,7 @@ impl<'a> ProgramFiles<'a> {
 
     /// The files, in this order.
     pub fn of(files: &'a [Vec<u8>]) -> ProgramFiles<'a>
-        requires { AllZip (λ limit file. length file ≤ limit) (4194304 ∷ 1048576 ∷ 1048576 ∷ []) (files_view files.now) }
+        requires { AllZip (λ limit file. length file ≤ limit) (IMAGE_LIMIT ∷ FILE_LIMIT ∷ FILE_LIMIT ∷ []) (files_view files.now) }
         ensures { files_view files.now ≡ result.image.now ∷ result.machine.now ∷ result.loops.now ∷ [] }
     {
         ProgramFiles {

@@ -4,9 +4,7 @@ use Rattle.scale_base.specs.declared.refusal.Refusal.{Refusal}
 use Rattle.scale_base.specs.declared.verdict.Verdict.{Verdict}
 use Rattle.scale_base.specs.Image.{Image, image_of}
 use Rattle.power_model.specs.Numbers.{PowerModel}
-use Rattle.machine_file.specs.Machine.{read_machine}
 use Rattle.loop_file.specs.declared.notes.LoopNote.{LoopNote}
-use Rattle.loop_file.specs.Loops.{read_loops}
 use Rattle.flow_graph.specs.FlowGraph.{FlowGraph}
 use Rattle.code_text.specs.Text.{text_of}
 use Rattle.loop_forest.specs.Tree.{LoopView}

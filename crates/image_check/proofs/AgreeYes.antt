@@ -20,7 +20,8 @@ use Rattle.loop_file.specs.declared.notes.LoopNote.{LoopNote}
 use Rattle.loop_file.specs.Kept.{noted_loops}
 use Rattle.loop_forest.specs.Tree.{LoopView, loops}
 use Rattle.answer_laws.specs.Alike.{AreAlikeNumbers, AreAlikeCharged}
-use Rattle.level_tables.specs.Tables.{EdgeNumbers, at_row}
+use Rattle.level_tables.specs.Tables.{at_row}
+use Rattle.level_tables.specs.declared.edge_numbers.EdgeNumbers.{EdgeNumbers}
 use Rattle.stored_runs.specs.Meaning.{four_bits}
 use Rattle.stored_runs.specs.Marks.{tail_cycles}
 use Rattle.paid_runs.specs.Marked.{extra_site_weights}

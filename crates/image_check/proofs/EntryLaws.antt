@@ -3,7 +3,8 @@ use Rattle.std.proofs.Common.{◌≡◌, ◌⊎◌, inl, inr, ⊎_elim, ℕ, ◌
 use Rattle.std.specs.Prelude.{◌==◌, nat_lt, length}
 use Rattle.std.proofs.lemmas.Bool.{eqb-true, eq-eqb, ltb-true, lt-ltb, both_ways}
 use Rattle.power_model.specs.Numbers.{PowerModel}
-use Rattle.level_tables.specs.Tables.{EdgeNumbers, meets_both}
+use Rattle.level_tables.specs.Tables.{meets_both}
+use Rattle.level_tables.specs.declared.edge_numbers.EdgeNumbers.{EdgeNumbers}
 use Rattle.stored_runs.specs.Meaning.{four_bits}
 use Rattle.paid_runs.specs.Tabled.{IsSafeEntry}
 use Rattle.image_check.specs.Causes.{IsBadEntry}

@@ -24,6 +24,7 @@ use Rattle.code_text.proofs.Laws.{kind_facts}
 use Rattle.flow_graph.specs.FlowGraph.{FlowGraph, graph}
 use Rattle.loop_forest.specs.Tree.{LoopView, loops}
 use Rattle.worst_cycles.specs.Worst.{by_edge}
+use Rattle.scale_sites.specs.Weights.{mark_cost}
 use Rattle.stub_writer.specs.Stubs.{Site}
 use Rattle.stored_runs.specs.Cycles.{fragment_cost}
 use Rattle.stored_runs.specs.Marks.{place_at, fragments_of_class, jumps_by}
@@ -35,7 +36,7 @@ use Rattle.foreign_scan.specs.Scanned.{Found, is_changed, IsChanged, CanBePatche
 use Rattle.foreign_scan.specs.Shown.{ScannedSites}
 use Rattle.image_check.specs.Safe.{Owner, with_rows, all_with_rows, place_by, sites_of}
 use Rattle.image_check.specs.Known.{IsFoundIn}
-use Rattle.image_check.specs.Weights.{foreign_cost, stub_jumps}
+use Rattle.image_check.specs.Weights.{foreign_cost, mark_of, stub_jumps}
 use Rattle.rewritten_runs.proofs.Laws.{weights_listed}
 use Rattle.image_check.proofs.CallEdges.{none_more}
 use Rattle.image_check.proofs.OnEdges.{reached_word, changed_place, same_place, fragments_on}
@@ -48,7 +49,7 @@ one_alike cost image l owner (Exit counter shift table) = refl
 one_alike cost image l owner (Reset counter) = refl
 one_alike cost image l owner (Count counter) = refl
 
-all_alike : (cost : Class → ℕ) (image : Image) (l : Loops) (owner : Owner) (fs : List ForeignFragment) → sum_by (fragment_cost cost) (all_with_rows image l owner fs) ≡ sum_by (foreign_cost cost) fs
+pub all_alike : (cost : Class → ℕ) (image : Image) (l : Loops) (owner : Owner) (fs : List ForeignFragment) → sum_by (fragment_cost cost) (all_with_rows image l owner fs) ≡ sum_by (foreign_cost cost) fs
 all_alike cost image l owner [] = refl
 all_alike cost image l owner (f ∷ fs) =
     let a = sum_by-cons (fragment_cost cost) (with_rows image l owner f) (all_with_rows image l owner fs) in
@@ -56,6 +57,13 @@ all_alike cost image l owner (f ∷ fs) =
     let c = one_alike cost image l owner f in
     let d = all_alike cost image l owner fs in
     omega (arith, a, b, c, d)
+
+-- and so do the marks for whose code they stand
+pub mark_alike : (costs : Costs) (f : ForeignFragment) → mark_cost costs (mark_of f) ≡ foreign_cost (cycles_of costs) f
+mark_alike costs (Switch word) = refl
+mark_alike costs (Exit counter shift table) = refl
+mark_alike costs (Reset counter) = omega arith
+mark_alike costs (Count counter) = omega arith
 
 some_same : {A : Type 0} {a b : A} → Some a ≡ Some b → a ≡ b
 some_same e = cc

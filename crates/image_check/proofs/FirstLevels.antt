@@ -18,7 +18,8 @@ use Rattle.cycle_laws.specs.Charged.{Charged}
 use Rattle.flow_graph.specs.FlowGraph.{graph, IsFlowGraph}
 use Rattle.loop_forest.specs.Tree.{loops}
 use Rattle.loop_forest.proofs.Laws.{source_number}
-use Rattle.level_tables.specs.Tables.{EdgeNumbers, at_row}
+use Rattle.level_tables.specs.Tables.{at_row}
+use Rattle.level_tables.specs.declared.edge_numbers.EdgeNumbers.{EdgeNumbers}
 use Rattle.stored_runs.specs.Meaning.{four_bits}
 use Rattle.stored_runs.specs.Marks.{tail_cycles}
 use Rattle.paid_runs.specs.Tabled.{told_on, IsSafeEntry}

@@ -12,7 +12,7 @@ use Rattle.level_tables.specs.Tables.{is_switch_in_time, pays, meets_both, trips
 use Rattle.stored_runs.specs.Meaning.{four_bits}
 use Rattle.paid_runs.specs.Tabled.{IsSafeEntry}
 use Rattle.image_check.specs.LastRows.{words_from, IsLastBefore, last_of, AreLastBefore, IsOneMore, AreBlocks}
-use Rattle.image_check.specs.Entries.{told_numbers, is_safe, HasBadRow, last_row, told_row, IsExitLevel, IsBadLast, HasBadLast}
+use Rattle.image_check.specs.Entries.{is_safe, HasBadRow, last_row, told_row, IsExitLevel, IsBadLast, HasBadLast}
 use Rattle.image_check.specs.declared.last_rows.LastPlaces.{LastPlaces}
 use Rattle.image_check.specs.declared.told.ExitTold.{ExitTold}
 use Rattle.image_check.proofs.EntryLaws.{safe_to, bad_entry}
@@ -115,7 +115,7 @@ module _ (power : PowerModel) (bytes : ℕ → ℕ) (exit : ExitTold) (first tab
   row_word w row e = ap (word_at bytes) (let same : 4 * (first + w) ≡ table + 4 * row = omega arith in same)
 
   pub bad_row : (i : ℕ) → i < length power.levels → HasBadLast power exit start places i
-      → HasBadRow power bytes (told_numbers exit.told) exit.bound exit.iteration exit.shift table (last_row exit + 1) i
+      → HasBadRow power bytes exit.told exit.bound exit.iteration exit.shift table (last_row exit + 1) i
   bad_row i level (j, small, (there, unsafe)) =
       let h = last i j (omega (arith, level, few)) small in
       let within = h.within in
@@ -126,7 +126,7 @@ module _ (power : PowerModel) (bytes : ℕ → ℕ) (exit : ExitTold) (first tab
         bad_entry power (told_row exit row) (word_at bytes (table + 4 * row)) i j level (sym entry ∙ ap (λ x. four_bits x i) (row_word (start + row) row refl)) unsafe,
       )
 
-  pub bad_last : (i : ℕ) → HasBadRow power bytes (told_numbers exit.told) exit.bound exit.iteration exit.shift table (last_row exit + 1) i → HasBadLast power exit start places i
+  pub bad_last : (i : ℕ) → HasBadRow power bytes exit.told exit.bound exit.iteration exit.shift table (last_row exit + 1) i → HasBadLast power exit start places i
   bad_last i (row, low, (level, unsafe)) =
       let j = four_bits (word_at bytes (table + 4 * row)) i in
       let small : j < 16 = mod-lt (word_at bytes (table + 4 * row) / 2 ^ (4 * i)) (omega arith) in

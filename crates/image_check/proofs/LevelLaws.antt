@@ -11,10 +11,10 @@ use Rattle.scale_base.specs.Image.{Image, loaded_byte}
 use Rattle.scale_base.specs.Layout.{layout_of, is_keyed, in_option}
 use Rattle.scale_base.specs.State.{word_at}
 use Rattle.scale_base.specs.declared.ranges.Keyed.{Keyed}
-use Rattle.scale_base.specs.declared.stepping.Class.{Class}
 use Rattle.power_model.specs.declared.power.Costs.{Costs}
 use Rattle.power_model.specs.Price.{cycles_of}
 use Rattle.power_model.specs.Switches.{costs_of}
+use Rattle.scale_sites.specs.Weights.{mark_tail}
 use Rattle.stored_runs.specs.Cycles.{fragment_cost, fragment_tail}
 use Rattle.cost_theory.specs.Graph.{Graph, Loops, only}
 use Rattle.cost_theory.specs.Accepted.{HasNoRecursion, AreAccepted, HaveWholeExtents}
@@ -28,7 +28,8 @@ use Rattle.flow_graph.specs.FlowGraph.{FlowGraph, graph}
 use Rattle.loop_forest.specs.Noted.{node_address}
 use Rattle.loop_forest.specs.Tree.{loops}
 use Rattle.worst_cycles.specs.Worst.{slack_at, rest_at}
-use Rattle.level_tables.specs.Tables.{EdgeNumbers, at_row}
+use Rattle.level_tables.specs.Tables.{at_row}
+use Rattle.level_tables.specs.declared.edge_numbers.EdgeNumbers.{EdgeNumbers}
 use Rattle.stored_runs.specs.Marks.{tail_cycles}
 use Rattle.paid_runs.specs.Tabled.{told_on}
 use Rattle.flat_memory.specs.Lists.{list_bytes}
@@ -40,11 +41,12 @@ use Rattle.image_check.specs.Safe.{Owner, owner_bound, with_rows, all_with_rows,
 use Rattle.image_check.specs.Causes.{IsBadEntry, HasBadEntry}
 use Rattle.image_check.specs.Known.{owner_by, IsFoundIn}
 use Rattle.image_check.specs.Uses.{on_edge}
-use Rattle.image_check.specs.Weights.{foreign_cost}
+use Rattle.image_check.specs.Weights.{foreign_cost, mark_of}
 use Rattle.image_check.specs.LastRows.{first_of_key, count_of_key}
 use Rattle.image_check.specs.Entries.{IsLeastIn, IsWordLevel, HasBadRow, IsTableLevel, AreRowsAmong}
 use Rattle.image_check.specs.Levels.{IsTailOf, AreKnownBy, IsBadAt}
 use Rattle.image_check.specs.declared.levels.Known.{Known}
+use Rattle.image_check.proofs.Extras.{all_alike}
 use Rattle.image_check.proofs.FoundFacts.{on_edge_is}
 use Rattle.image_check.proofs.Rows.{rows}
 
@@ -62,21 +64,6 @@ told_same a b p q r =
 
 -- ---- the cycles behind a store
 
-alike : (cost : Class → ℕ) (image : Image) (l : Loops) (owner : Owner) (fs : List ForeignFragment) → sum_by (fragment_cost cost) (all_with_rows image l owner fs) ≡ sum_by (foreign_cost cost) fs
-alike cost image l owner [] = refl
-alike cost image l owner (f ∷ fs) =
-    let a = sum_by-cons (fragment_cost cost) (with_rows image l owner f) (all_with_rows image l owner fs) in
-    let b = sum_by-cons (foreign_cost cost) f fs in
-    let c = one_alike f in
-    let d = alike cost image l owner fs in
-    omega (arith, a, b, c, d)
-  where
-    one_alike : (h : ForeignFragment) → fragment_cost cost (with_rows image l owner h) ≡ foreign_cost cost h
-    one_alike (Switch word) = refl
-    one_alike (Exit counter shift table) = refl
-    one_alike (Reset counter) = refl
-    one_alike (Count counter) = refl
-
 pub tail_none : (costs : Costs) (fs : List ForeignFragment) → fs ≡ [] → IsTailOf costs fs 0
 tail_none costs fs e = λ image l owner. sym (ap (λ (xs : List ForeignFragment). tail_cycles (cycles_of costs) (all_with_rows image l owner xs)) e)
 
@@ -87,9 +74,18 @@ two_loads costs image l owner (Exit counter shift table) = refl
 two_loads costs image l owner (Reset counter) = refl
 two_loads costs image l owner (Count counter) = refl
 
-pub tail_some : (costs : Costs) (fs : List ForeignFragment) (f : ForeignFragment) (rest : List ForeignFragment) (cycles : ℕ) → fs ≡ f ∷ rest → cycles ≡ sum_by (foreign_cost (cycles_of costs)) rest → IsTailOf costs fs (2 * costs.load + cycles + costs.jump)
-tail_some costs fs f rest cycles e is = λ image l owner.
-    ap (λ m. 2 * costs.load + m + costs.jump) (is ∙ sym (alike (cycles_of costs) image l owner rest))
+-- so has the mark for whose code it stands
+pub mark_loads : (costs : Costs) (f : ForeignFragment) → mark_tail costs (mark_of f) ≡ 2 * costs.load
+mark_loads costs (Switch word) = refl
+mark_loads costs (Exit counter shift table) = refl
+mark_loads costs (Reset counter) = refl
+mark_loads costs (Count counter) = refl
+
+pub tail_some : (costs : Costs) (fs : List ForeignFragment) (f : ForeignFragment) (rest : List ForeignFragment) (tail cycles : ℕ) → fs ≡ f ∷ rest → tail ≡ mark_tail costs (mark_of f) → cycles ≡ sum_by (foreign_cost (cycles_of costs)) rest
+    → IsTailOf costs fs (tail + cycles + costs.jump)
+tail_some costs fs f rest tail cycles e loads is = λ image l owner.
+    ap (λ m. m + cycles + costs.jump) (loads ∙ mark_loads costs f)
+    ∙ ap (λ m. 2 * costs.load + m + costs.jump) (is ∙ sym (all_alike (cycles_of costs) image l owner rest))
     ∙ ap (λ x. x + sum_by (fragment_cost (cycles_of costs)) (all_with_rows image l owner rest) + costs.jump) (sym (two_loads costs image l owner f)) ∙ sym (ap (λ (xs : List ForeignFragment). tail_cycles (cycles_of costs) (all_with_rows image l owner xs)) e)
 
 -- ---- rows in the keyed segment are among its words

@@ -8,7 +8,8 @@ use Rattle.cost_theory.specs.Worst.{Numbers}
 use Rattle.cycle_laws.specs.Charged.{Charged}
 use Rattle.code_text.specs.Text.{text_of}
 use Rattle.code_text.specs.TextGraph.{text_graph}
-use Rattle.level_tables.specs.Tables.{EdgeNumbers, meets_both}
+use Rattle.level_tables.specs.Tables.{meets_both}
+use Rattle.level_tables.specs.declared.edge_numbers.EdgeNumbers.{EdgeNumbers}
 use Rattle.level_tables.specs.Budgets.{meets_in_budget}
 use Rattle.level_tables.proofs.Laws.{both_in_budget, both_in_time}
 use Rattle.paid_runs.specs.Tabled.{IsEntryBy}

@@ -15,7 +15,8 @@ use Rattle.cycle_laws.specs.Charged.{Charged}
 use Rattle.code_text.specs.Text.{text_of}
 use Rattle.code_text.specs.TextGraph.{text_graph}
 use Rattle.level_tables.specs.Budgets.{Entry, AreEntries, AreKept, is_switch_in_budget, least_budgets, meets_in_budget}
-use Rattle.level_tables.specs.Tables.{EdgeNumbers, at_row, pays}
+use Rattle.level_tables.specs.Tables.{at_row, pays}
+use Rattle.level_tables.specs.declared.edge_numbers.EdgeNumbers.{EdgeNumbers}
 use Rattle.level_tables.proofs.Laws.{least_are}
 use Rattle.stored_runs.specs.Meaning.{four_bits}
 use Rattle.stored_runs.specs.Marks.{tail_cycles}

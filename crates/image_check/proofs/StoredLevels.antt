@@ -29,7 +29,8 @@ use Rattle.loop_file.specs.declared.notes.LoopNote.{LoopNote}
 use Rattle.loop_file.specs.Kept.{noted_loops}
 use Rattle.loop_forest.specs.Tree.{LoopView, loops}
 use Rattle.worst_cycles.specs.Worst.{slack_at, rest_at}
-use Rattle.level_tables.specs.Tables.{EdgeNumbers, at_row, entry_of, level_word, table_row, rows_of, shift_of}
+use Rattle.level_tables.specs.Tables.{at_row, entry_of, level_word, table_row, rows_of, shift_of}
+use Rattle.level_tables.specs.declared.edge_numbers.EdgeNumbers.{EdgeNumbers}
 use Rattle.level_tables.proofs.Laws.{entry-is, word-at}
 use Rattle.scale_sites.specs.Counters.{counted_loops}
 use Rattle.scale_sites.specs.Weights.{tail_of}

@@ -28,7 +28,7 @@ use Rattle.loop_file.specs.declared.notes.LoopNote.{LoopNote}
 use Rattle.loop_file.specs.Kept.{noted_loops}
 use Rattle.loop_forest.specs.Tree.{LoopView, loops}
 use Rattle.worst_cycles.specs.Worst.{slack_at}
-use Rattle.level_tables.specs.Tables as tables
+use Rattle.level_tables.specs.declared.edge_numbers.EdgeNumbers.{EdgeNumbers}
 use Rattle.scale_sites.specs.Counters.{counted_loops}
 use Rattle.scale_sites.specs.Marks.{first_counter}
 use Rattle.scale_sites.specs.Sites.{is_branch}
@@ -51,7 +51,7 @@ use Rattle.image_check.proofs.StoredCounts.{mark_counts, mark_clears, counts_at,
 
 -- ---- fragments count as their marks do
 
-module _ (power : PowerModel) (l : Loops) (counted : List ℕ) (n : Numbers) (told : tables.EdgeNumbers) (c : ℕ) where
+module _ (power : PowerModel) (l : Loops) (counted : List ℕ) (n : Numbers) (told : EdgeNumbers) (c : ℕ) where
   one_counts : (table : ℕ) (m : Mark) → counts_it c (found_one table (fragment_of power l counted n told m)) ≡ mark_counts c m
   one_counts table marks.Switch = refl
   one_counts table (marks.Exit i) = refl

@@ -29,6 +29,7 @@ use Rattle.loop_file.specs.declared.notes.LoopNote.{LoopNote}
 use Rattle.loop_file.specs.Kept.{noted_loops}
 use Rattle.loop_forest.specs.Tree.{LoopView, loops}
 use Rattle.level_tables.specs.Tables as tables
+use Rattle.level_tables.specs.declared.edge_numbers.EdgeNumbers.{EdgeNumbers}
 use Rattle.scale_sites.specs.Counters.{counted_loops}
 use Rattle.stub_writer.specs.Stubs.{Site, Place}
 use Rattle.stored_runs.specs.Cycles.{fragment_cost}
@@ -59,7 +60,7 @@ exit_clears c (m ∷ ms) zero e =
 exit_clears c (m ∷ ms) (suc i) e = let later = exit_clears c ms i e in omega (arith, later, sum_by-cons (mark_clears c) m ms)
 
 -- each mark's fragment has its rows, where its counter has its loop
-rows_of_marks : (power : PowerModel) (l : Loops) (counted : List ℕ) (n : Numbers) (told : tables.EdgeNumbers) (owner : Owner) (ms : List Mark)
+rows_of_marks : (power : PowerModel) (l : Loops) (counted : List ℕ) (n : Numbers) (told : EdgeNumbers) (owner : Owner) (ms : List Mark)
     → ((c i : ℕ) → slice_get ms i ≡ Some (marks.Exit c) → owner c ≡ Some (loop_of counted c)) → All (HasItsRows l owner) (map (fragment_of power l counted n told) ms)
 rows_of_marks power l counted n told owner [] own = All-nil (HasItsRows l owner)
 rows_of_marks power l counted n told owner (m ∷ ms) own =

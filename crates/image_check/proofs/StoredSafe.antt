@@ -46,7 +46,7 @@ use Rattle.image_check.proofs.StoredRows as rowed
 use Rattle.scale_base.specs.declared.fragments.Fragment.{Fragment}
 use Rattle.scale_base.specs.declared.fragments.Mark.{Mark}
 use Rattle.scale_base.specs.declared.fragments.Mark.TheVariants as marks
-use Rattle.level_tables.specs.Tables.{EdgeNumbers}
+use Rattle.level_tables.specs.declared.edge_numbers.EdgeNumbers.{EdgeNumbers}
 use Rattle.scale_sites.specs.Counters.{counted_loops}
 use Rattle.image_check.proofs.StoredLevels as leveled
 

@@ -15,7 +15,8 @@ use Rattle.stored_runs.specs.Stubbed as stubbed
 use Rattle.stored_runs.specs.Stubbed.{AreOrdered, IsQuiet}
 use Rattle.stored_runs.specs.Patched.{IsSafeFragment}
 use Rattle.power_model.specs.Switches.{costs_of}
-use Rattle.level_tables.specs.Tables.{EdgeNumbers, at_row}
+use Rattle.level_tables.specs.Tables.{at_row}
+use Rattle.level_tables.specs.declared.edge_numbers.EdgeNumbers.{EdgeNumbers}
 use Rattle.paid_runs.specs.Tabled.{told_on, IsEntryBy, IsEdgeTabledBy}
 use Rattle.foreign_scan.specs.declared.fragment.ForeignFragment.{ForeignFragment}
 use Rattle.foreign_scan.specs.declared.fragment.ForeignFragment.TheVariants.{Switch, Exit, Reset, Count}

@@ -26,7 +26,8 @@ use Rattle.stored_runs.specs.Marks.{tail_cycles}
 use Rattle.stored_runs.specs.Patched.{IsSafeEdge, AreSafeEdges}
 use Rattle.paid_runs.proofs.Laws.{targets_are_words, tables_of_keep_time, tables_keep_budgets, budgeted_safe, tuned_safe}
 use Rattle.power_model.specs.Switches.{costs_of}
-use Rattle.level_tables.specs.Tables.{EdgeNumbers, meets_both}
+use Rattle.level_tables.specs.Tables.{meets_both}
+use Rattle.level_tables.specs.declared.edge_numbers.EdgeNumbers.{EdgeNumbers}
 use Rattle.level_tables.specs.Budgets.{meets_in_budget}
 use Rattle.paid_runs.specs.Timely.{weights_of}
 use Rattle.paid_runs.specs.Tabled.{told_on, IsEdgeTabledBy, AreTabledBy}

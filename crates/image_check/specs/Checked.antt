@@ -1,6 +1,7 @@
 -- What `check` gives of an image of other make beside an original: that it is safe, with its numbers, or the first cause why it isn't known to be.
 -- It is a relation, since a refusal may name any of several cycles.
-use Rattle.std.specs.Prelude.{◌≡◌, ◌⊎◌, ℕ, ◌<◌, ◌≤◌, ◌^◌, List, length, Result, Ok, Err}
+use Rattle.std.specs.Prelude.{◌≡◌, ◌⊎◌, ℕ, ◌<◌, ◌≤◌, List, length, Result, Ok, Err}
+use Rattle.scale_base.specs.declared.limits.TheConstants.{CYCLE_LIMIT}
 use Rattle.scale_base.specs.declared.refusal.Refusal.{Refusal}
 use Rattle.scale_base.specs.declared.verdict.Checked.{Checked}
 use Rattle.scale_base.specs.declared.verdict.Verdict.{Verdict}
@@ -11,11 +12,9 @@ use Rattle.scale_base.specs.Image.{Image, image_of}
 use Rattle.scale_base.specs.Run.{starting_level}
 use Rattle.power_model.specs.Numbers.{PowerModel}
 use Rattle.power_model.specs.Price.{time_at}
-use Rattle.machine_file.specs.Machine.{read_machine}
 use Rattle.elf_view.specs.Refused.{refusal_number}
 use Rattle.loop_file.specs.declared.notes.LoopNote.{LoopNote}
 use Rattle.loop_file.specs.Kept.{noted_loops}
-use Rattle.loop_file.specs.Loops.{read_loops}
 use Rattle.cost_theory.specs.Graph.{Graph}
 use Rattle.cost_theory.specs.Worst.{Numbers, AreNumbers}
 use Rattle.cycle_laws.specs.Charged.{Charged, AreCharged}
@@ -55,7 +54,7 @@ pub record IsCounted (power : PowerModel) (original foreign : Image) (v : FlowGr
 -- besides, its worst cycles are in range, and the key's level is one of the machine's
 pub record HasLevel (power : PowerModel) (original foreign : Image) (v : FlowGraph) (tree : LoopView) (found : Found) (owner : Owner) (n : Numbers) : Type 0 where
   pub counted : IsCounted power original foreign v tree found owner n
-  pub short : n.worst 0 ≤ 2 ^ 48
+  pub short : n.worst 0 ≤ CYCLE_LIMIT
   pub level : key_level power foreign < length power.levels
 
 -- the scan finds none of its causes, and the counter is the first that is used and counts no loop
@@ -70,7 +69,7 @@ pub record IsOverLong (power : PowerModel) (original foreign : Image) (v : FlowG
   pub owner : Owner
   pub n : Numbers
   pub counted : IsCounted power original foreign v tree found owner n
-  pub long : 2 ^ 48 < n.worst 0
+  pub long : CYCLE_LIMIT < n.worst 0
 
 -- they are in range, and the key's level is none of the machine's
 pub record StartsNowhere (power : PowerModel) (original foreign : Image) (v : FlowGraph) (tree : LoopView) (level levels : ℕ) : Type 0 where
@@ -78,7 +77,7 @@ pub record StartsNowhere (power : PowerModel) (original foreign : Image) (v : Fl
   pub owner : Owner
   pub n : Numbers
   pub counted : IsCounted power original foreign v tree found owner n
-  pub short : n.worst 0 ≤ 2 ^ 48
+  pub short : n.worst 0 ≤ CYCLE_LIMIT
   pub level_is : level ≡ key_level power foreign
   pub levels_are : levels ≡ length power.levels
   pub none : levels ≤ level

@@ -1,5 +1,6 @@
 -- Scaffold: what the parts of `check` know, on the way to its verdict.
-use Rattle.std.specs.Prelude.{◌≡◌, ℕ, ◌<◌, ◌≤◌, ◌^◌, length, slice_get, slice_index, None, Some}
+use Rattle.std.specs.Prelude.{◌≡◌, ℕ, ◌<◌, ◌≤◌, length, slice_get, slice_index, None, Some}
+use Rattle.scale_base.specs.declared.limits.TheConstants.{CYCLE_LIMIT}
 use Rattle.scale_base.specs.Image.{Image}
 use Rattle.power_model.specs.Numbers.{IsPowerModel}
 use Rattle.power_model.specs.Price.{time_at}
@@ -42,7 +43,7 @@ pub record AreShortCosts (p : Original) (r : Received) (c : CostsWithStubs) (fou
   pub weights_are : by_edge c.weights ≡ weights_with p.power p.view r.view p.graph p.tree (owner_by r.owners) found
   pub light : (e : ℕ) → e < length p.graph.code.edges → slice_index c.weights e ≤ 4294967295
   pub numbers : AreNumbers (graph p.graph) (loops p.graph p.tree) (by_edge c.weights) n
-  pub short : n.worst 0 ≤ 2 ^ 48
+  pub short : n.worst 0 ≤ CYCLE_LIMIT
   pub worst : slice_get c.worst.worst 0 ≡ Some (n.worst 0)
   pub iterations_size : length c.worst.iteration ≡ (loops p.graph p.tree).loops
   pub iterations : (k : ℕ) → k < (loops p.graph p.tree).loops → slice_get c.worst.iteration k ≡ Some (n.iteration k)

@@ -2,15 +2,12 @@
 use Rattle.std.specs.Prelude.{◌≡◌, ℕ, ◌+◌, ◌-◌, ◌*◌, ◌/◌, ◌%◌, ◌^◌, ◌<◌, ◌≤◌, ◌==◌, ◌&&◌, ◌||◌, nat_lt, Bool, false, Option, Some, None}
 use Rattle.scale_base.specs.State.{word_at}
 use Rattle.power_model.specs.Numbers.{PowerModel}
-use Rattle.level_tables.specs.Tables.{EdgeNumbers, meets_both, at_row}
+use Rattle.level_tables.specs.Tables.{meets_both, at_row}
+use Rattle.level_tables.specs.declared.edge_numbers.EdgeNumbers.{EdgeNumbers}
 use Rattle.image_check.specs.Causes.{IsBadEntry}
 use Rattle.image_check.specs.LastRows.{last_of}
 use Rattle.image_check.specs.declared.last_rows.LastPlaces.{LastPlaces}
 use Rattle.image_check.specs.declared.told.ExitTold.{ExitTold}
-use Rattle.image_check.specs.declared.told.Told.{Told}
-
-abbrev pub told_numbers : Told → EdgeNumbers
-told_numbers x = record { slack = x.slack; left = x.left; least = x.least }
 
 -- whether an entry is safe
 abbrev pub is_safe : PowerModel → EdgeNumbers → (i j : ℕ) → Bool
@@ -40,10 +37,10 @@ abbrev pub last_row : ExitTold → ℕ
 last_row exit = exit.bound / 2 ^ exit.shift
 
 abbrev pub told_row : ExitTold → ℕ → EdgeNumbers
-told_row exit row = at_row exit.bound exit.iteration exit.shift (told_numbers exit.told) row
+told_row exit row = at_row exit.bound exit.iteration exit.shift exit.told row
 
 abbrev pub IsExitLevel : PowerModel → (ℕ → ℕ) → ExitTold → (table : ℕ) → Option ℕ → Type 0
-IsExitLevel power bytes exit table = IsTableLevel power bytes (told_numbers exit.told) exit.bound exit.iteration exit.shift table
+IsExitLevel power bytes exit table = IsTableLevel power bytes exit.told exit.bound exit.iteration exit.shift table
     (last_row exit + 1)
 
 -- the rows up to the last one are among `count` words, of which word 0 has the address 4 * first

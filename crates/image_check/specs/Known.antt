@@ -1,5 +1,6 @@
 -- Scaffold: what a check knows behind the scan, as lists: the fragments that a scan found, the loops of counters, and the numbers under weights.
 use Rattle.std.specs.Prelude.{◌≡◌, ℕ, ◌*◌, ◌^◌, ◌<◌, ◌≤◌, Bool, List, length, slice_get, slice_index_or, Option, Some, None, Result, Ok, Err}
+use Rattle.scale_base.specs.declared.limits.TheConstants.{CYCLE_LIMIT}
 use Rattle.scale_base.specs.Image.{Image}
 use Rattle.power_model.specs.Numbers.{PowerModel}
 use Rattle.cost_theory.specs.Graph.{Graph, Loops}
@@ -52,8 +53,8 @@ pub record AreWeighed (v : FlowGraph) (t : LoopView) (w : ℕ → ℕ) (n : Numb
   pub after_size : length ends.after ≡ length v.code.edges
   pub after : (e : ℕ) → e < length v.code.edges → slice_get ends.after e ≡ Some (to_end_after (graph v) (loops v t) least e)
   pub slack_small : (e : ℕ) → e < length v.code.edges → slack_at (graph v) (loops v t) w n e ≤ 2 ^ 50
-  pub rest_small : (e : ℕ) → e < length v.code.edges → rest_at (graph v) (loops v t) n e ≤ 2 ^ 48
-  pub turns_small : (k : ℕ) → k < length t.headers → (loops v t).bound k * n.iteration k ≤ 2 ^ 48
+  pub rest_small : (e : ℕ) → e < length v.code.edges → rest_at (graph v) (loops v t) n e ≤ CYCLE_LIMIT
+  pub turns_small : (k : ℕ) → k < length t.headers → (loops v t).bound k * n.iteration k ≤ CYCLE_LIMIT
   pub after_small : (e z : ℕ) → e < length v.code.edges → to_end_after (graph v) (loops v t) least e ≡ Some z → z < 2 ^ 89
 
 -- what is found, the loops of its counters, and the numbers

@@ -11,6 +11,7 @@ use Rattle.cost_theory.specs.Graph.{Loops}
 use Rattle.cost_theory.specs.Worst.{Numbers}
 use Rattle.cycle_laws.specs.Charged.{Charged}
 use Rattle.flow_graph.specs.FlowGraph.{graph}
+use Rattle.level_tables.specs.declared.edge_numbers.EdgeNumbers.{EdgeNumbers}
 use Rattle.loop_forest.specs.Tree.{loops}
 use Rattle.stored_runs.specs.Marks.{tail_cycles}
 use Rattle.paid_runs.specs.Tabled.{told_on}
@@ -22,8 +23,7 @@ use Rattle.image_check.specs.Causes.{IsBadLevel}
 use Rattle.image_check.specs.Known.{owner_by, AreKnown, IsLevelsAnswer}
 use Rattle.image_check.specs.Uses.{on_edge}
 use Rattle.image_check.specs.LastRows.{first_of_key, count_of_key}
-use Rattle.image_check.specs.Entries.{told_numbers, IsLeastIn}
-use Rattle.image_check.specs.declared.told.Told.{Told}
+use Rattle.image_check.specs.Entries.{IsLeastIn}
 use Rattle.image_check.specs.declared.levels.Known.{Known}
 
 -- the cycles behind the store of an edge with these fragments, whatever rows their tables have
@@ -54,8 +54,8 @@ LeadsOn x e = (e < length x.graph.now.code.edges) × ((to : ℕ) × ((graph x.gr
 abbrev pub IsFirstOn : Known → ℕ → ForeignFragment → Type 0
 IsFirstOn x e f = (rest : List ForeignFragment) × (on_edge x.sites.now e ≡ f ∷ rest)
 
-abbrev pub IsToldOn : Known → ℕ → Told → Type 0
-IsToldOn x e told = ForAllKnown x (λ foreign found w n least. told_numbers told
+abbrev pub IsToldOn : Known → ℕ → EdgeNumbers → Type 0
+IsToldOn x e told = ForAllKnown x (λ foreign found w n least. told
     ≡ told_on (graph x.graph.now) (loops x.graph.now x.tree.now) w n least e (tail_cycles (costs_of x.power.now)
     (all_with_rows foreign (loops x.graph.now x.tree.now) (owner_by x.owners.now) (on_edge x.sites.now e))))
 

@@ -14,7 +14,8 @@ use Rattle.cycle_laws.specs.Charged.{Charged, AreCharged}
 use Rattle.code_text.specs.Text.{text_of}
 use Rattle.code_text.specs.TextGraph.{text_graph}
 use Rattle.level_tables.specs.Budgets.{Entry, least_budgets}
-use Rattle.level_tables.specs.Tables.{EdgeNumbers, at_row, pays}
+use Rattle.level_tables.specs.Tables.{at_row, pays}
+use Rattle.level_tables.specs.declared.edge_numbers.EdgeNumbers.{EdgeNumbers}
 use Rattle.stored_runs.specs.Meaning.{four_bits}
 use Rattle.stored_runs.specs.Marks.{tail_cycles}
 use Rattle.paid_runs.specs.Marked.{extra_site_weights}

@@ -1,5 +1,6 @@
 -- Scaffold: the laws of paced images, as statements for the contract of a function.
 use Rattle.std.specs.Prelude.{◌≡◌, ℕ, ◌^◌, ◌<◌, ◌≤◌, Bool, List, length, Some, Ok, None}
+use Rattle.scale_base.specs.declared.limits.TheConstants.{CYCLE_LIMIT}
 use Rattle.scale_base.specs.Image.{Image, image_of, loaded_byte}
 use Rattle.scale_base.specs.Run.{run_of, starting_level}
 use Rattle.power_model.specs.Numbers.{PowerModel, IsPowerModel}
@@ -29,7 +30,7 @@ SafeImagesArePaced = (power : PowerModel) (original foreign : Image) (code : Cod
     (owner : Owner) (n : Numbers) (least : Charged) (more : Numbers) →
     (IsSafeImage power original foreign code l extent found owner n least more →
     IsPacedImage power (λ i. power.deadline) original foreign code l extent found owner n least more)
-    × (IsPacedImage power (λ i. power.deadline) original foreign code l extent found owner n least more → n.worst 0 ≤ 2 ^ 48 →
+    × (IsPacedImage power (λ i. power.deadline) original foreign code l extent found owner n least more → n.worst 0 ≤ CYCLE_LIMIT →
     IsSafeImage power original foreign code l extent found owner n least more)
 
 -- A paced image is one whose tables keep budgets: so each kept run of it is safe.

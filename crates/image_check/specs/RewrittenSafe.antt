@@ -1,5 +1,6 @@
 -- Scaffold: a rewritten image is a safe one. As a statement for the contract of a function.
 use Rattle.std.specs.Prelude.{◌≡◌, ℕ, ◌≤◌, Bool, List, length, Some, None, Ok}
+use Rattle.scale_base.specs.declared.limits.TheConstants.{CYCLE_LIMIT, IMAGE_LIMIT}
 use Rattle.scale_base.specs.Image.{Image, image_of}
 use Rattle.scale_base.specs.Run.{starting_level}
 use Rattle.power_model.specs.Numbers.{PowerModel, IsPowerModel}
@@ -29,8 +30,8 @@ pub record IsSafeAt (power : PowerModel) (original foreign : Image) (code : Code
 abbrev pub RewrittenImagesAreSafe : Type 0
 RewrittenImagesAreSafe = (power : PowerModel) → IsPowerModel power → (file : List ℕ) (original foreign : Image) (notes : List LoopNote)
     (v : FlowGraph) (tree : LoopView) (plain stored extra : Numbers) (least : Charged) (sites : List Site) (base start : ℕ)
-    → image_of file ≡ Ok original → original.keyed_segment ≡ None → length file ≤ 4194304 →
-    IsWeighed power original notes v tree plain stored → stored.worst 0 ≤ 281474976710656 →
+    → image_of file ≡ Ok original → original.keyed_segment ≡ None → length file ≤ IMAGE_LIMIT →
+    IsWeighed power original notes v tree plain stored → stored.worst 0 ≤ CYCLE_LIMIT →
     slowest_of power (stored.worst 0) ≡ Some start
     → HasStubs power original v tree plain stored extra least sites base → out_of_reach base sites ≡ None →
     image_of (rewritten_file original sites base start) ≡ Ok foreign

@@ -2,6 +2,7 @@
 -- level and to a lower one only where it keeps time and pays.
 use Rattle.std.specs.Prelude.{◌≡◌, ℕ, zero, suc, ◌+◌, ◌*◌, ◌/◌, ◌^◌, ◌<◌, ◌≤◌, ◌==◌, Bool, true, false, List, [], ◌∷◌, map, length, filter, slice_get, Option, Some, None, if◌then◌else◌}
 use Rattle.std.specs.List.{sum_by}
+use Rattle.scale_base.specs.declared.limits.TheConstants.{CYCLE_LIMIT}
 use Rattle.scale_base.specs.declared.fragments.Fragment.{Fragment}
 use Rattle.scale_base.specs.declared.fragments.Fragment.TheVariants as fragments
 use Rattle.scale_base.specs.declared.instruction.Instr.{Instr}
@@ -26,7 +27,8 @@ use Rattle.stored_runs.specs.Meaning.{four_bits}
 use Rattle.stored_runs.specs.Marks.{tail_cycles}
 use Rattle.paid_runs.specs.Marked.{extra_site_weights}
 use Rattle.power_model.specs.Switches.{period, costs_of}
-use Rattle.level_tables.specs.Tables.{EdgeNumbers, meets_both, at_row}
+use Rattle.level_tables.specs.Tables.{meets_both, at_row}
+use Rattle.level_tables.specs.declared.edge_numbers.EdgeNumbers.{EdgeNumbers}
 use Rattle.paid_runs.specs.Timely.{weights_of}
 use Rattle.paid_runs.specs.Tabled.{told_on, IsEntryBy}
 use Rattle.foreign_scan.specs.declared.fragment.ForeignFragment.{ForeignFragment}
@@ -173,7 +175,7 @@ pub record IsSafeImage (power : PowerModel) (original foreign : Image) (code : C
       (sites_of original foreign code l owner found)) least
   pub added : IsAnalyzed (text_graph (text_of original) code) l extent (extra_site_weights (text_of original) code (costs_of power)
       (sites_of original foreign code l owner found)) more
-  pub not_long : n.worst 0 ≤ 2 ^ 48
+  pub not_long : n.worst 0 ≤ CYCLE_LIMIT
   pub start : starting_level (length power.levels) foreign.keyed_segment < length power.levels
   pub in_time : n.worst 0 * period power (starting_level (length power.levels) foreign.keyed_segment) ≤ power.deadline
   pub levels : (e : ℕ) → e < (text_graph (text_of original) code).edges

@@ -4,6 +4,8 @@ use Rattle.scale_base.specs.declared.edges.EdgeKind.{EdgeKind}
 use Rattle.scale_base.specs.declared.edges.EdgeKind.TheVariants.{Taken, Untaken, Jump, Next, CallNext, End}
 use Rattle.scale_base.specs.declared.fragments.Fragment.{Fragment}
 use Rattle.scale_base.specs.declared.fragments.Fragment.TheVariants as fragments
+use Rattle.scale_base.specs.declared.fragments.Mark.{Mark}
+use Rattle.scale_base.specs.declared.fragments.Mark.TheVariants as marks
 use Rattle.scale_base.specs.declared.stepping.Class.{Class}
 use Rattle.scale_base.specs.Image.{Image}
 use Rattle.power_model.specs.declared.power.Costs.{Costs}
@@ -20,6 +22,13 @@ use Rattle.foreign_scan.specs.Scanned.{Found}
 use Rattle.foreign_scan.specs.Shown.{ScannedSites}
 use Rattle.image_check.specs.Safe.{Owner, sites_of}
 use Rattle.image_check.specs.Known.{IsFoundIn}
+
+-- the mark for whose code a fragment stands
+abbrev pub mark_of : ForeignFragment → Mark
+mark_of (Switch word) = marks.Switch
+mark_of (Exit counter shift table) = marks.Exit counter
+mark_of (Reset counter) = marks.Reset counter
+mark_of (Count counter) = marks.Count counter
 
 -- a fragment without rows, which cost nothing
 abbrev pub without_rows : ForeignFragment → Fragment

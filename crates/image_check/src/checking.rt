@@ -28,7 +28,9 @@ use loop_forest::LoopTree;
 use loop_tree::build_loops;
 use power_model::Power;
 use program_sources::Sources;
-use scale_base::{Checked, Keyed, NoMemory, Stop, Verdict, Why};
+use scale_base::{
+    Checked, FILE_LIMIT, IMAGE_LIMIT, Keyed, NoMemory, STORED_LIMIT, Stop, Verdict, Why,
+};
 use std::alloc::Global;
 use worst_cycles::{WorstNumbers, worst};
 
@@ -264,10 +266,10 @@ pub fn check(
     machine: &[u8],
     loops: &[u8],
 ) -> Result<Verdict, Stop>
-    requires image { length image.now ≤ 4194304 }
-    requires foreign { length foreign.now ≤ 8388608 }
-    requires machine { length machine.now ≤ 1048576 }
-    requires loops { length loops.now ≤ 1048576 }
+    requires image { length image.now ≤ IMAGE_LIMIT }
+    requires foreign { length foreign.now ≤ STORED_LIMIT }
+    requires machine { length machine.now ≤ FILE_LIMIT }
+    requires loops { length loops.now ≤ FILE_LIMIT }
     ensures verdict { AnswersBy (λ v. v) result (IsChecked image.now foreign.now machine.now loops.now) }
 
     // An image that passes keeps the promise, with the printed number of cycles.

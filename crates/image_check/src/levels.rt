@@ -1,6 +1,6 @@
 //! The first entry of a table that isn't safe.
 
-ghost use Rattle.std.specs.Prelude.{◌≡◌, ◌↔◌, ◌<◌, ◌≤◌, ◌+◌, ◌*◌, ◌^◌, ℕ, true, List, [], ◌∷◌, Some, None, length, option_map, IfOk, IfSome};
+ghost use Rattle.std.specs.Prelude.{◌≡◌, ◌↔◌, ◌<◌, ◌≤◌, ◌^◌, ℕ, true, List, [], ◌∷◌, Some, None, length, IfOk, IfSome};
 ghost use Rattle.scale_base.specs.Image.{Image};
 ghost use Rattle.cost_theory.specs.Worst.{Numbers};
 ghost use Rattle.cycle_laws.specs.Charged.{Charged};
@@ -14,14 +14,16 @@ use crate::checking::{Original, Received};
 use crate::entries::{table_level, word_level};
 use crate::last_rows::{LastRows, read_rows};
 use crate::owners::OwnerList;
-use crate::told::{ExitTold, Told};
-use crate::weights::fragments_cycles;
+use crate::told::ExitTold;
+use crate::weights::{fragments_cycles, mark_of};
 use flow_graph::CodeGraph;
 use foreign_scan::{ForeignFragment, ForeignSites};
 use least_cycles::LeastNumbers;
+use level_tables::EdgeNumbers;
 use loop_forest::LoopTree;
 use power_model::{Costs, Power};
 use scale_base::{EdgeKind, NoMemory};
+use scale_sites::mark_tail;
 use std::alloc::Global;
 use worst_cycles::WorstNumbers;
 
@@ -39,14 +41,6 @@ struct Known<'a> {
     least: &'a LeastNumbers,
 }
 
-/// The cycles of two loads.
-fn two_loads(costs: &Costs) -> u32
-    ensures value { result ≡ 2 * costs.now.load }
-    ensures small { result ≤ 2 * 65535 }
-{
-    2 * u32::from(costs.load)
-}
-
 /// The cycles of a jump.
 fn jump_cycles(costs: &Costs) -> u32
     ensures value { result ≡ costs.now.jump }
@@ -55,7 +49,7 @@ fn jump_cycles(costs: &Costs) -> u32
     u32::from(costs.jump)
 }
 
-/// The cycles of an edge behind its store at the port: two loads, the fragments behind the first, and the jump back.
+/// The cycles of an edge behind its store at the port: those of the first fragment, the fragments behind it, and the jump back.
 fn tail_cycles(fragments: &[ForeignFragment], power: &Power) -> u32
     requires { length fragments.now ≤ 64 }
     ensures tail { IsTailOf power.now.costs fragments.now result }
@@ -65,39 +59,23 @@ fn tail_cycles(fragments: &[ForeignFragment], power: &Power) -> u32
         return 0;
     }
     let behind = fragments_cycles(&fragments[1..], &power.costs);
-    two_loads(&power.costs) + behind + jump_cycles(&power.costs)
-}
-
-/// Some cycles more, if there are any.
-fn plus(least: Option<u128>, tail: u32) -> Option<u128>
-    requires small { IfSome least (λ z. z < 2 ^ 89) }
-    requires tail { tail < 2 ^ 28 }
-    ensures sum { result ≡ option_map (λ z. z + tail) least }
-    ensures small { IfSome result (λ z. z < 2 ^ 90) }
-{
-    match least {
-        Some(cycles) => Some(cycles + u128::from(tail)),
-        None => None,
-    }
+    mark_tail(&mark_of(&fragments[0]), &power.costs) + behind + jump_cycles(&power.costs)
 }
 
 /// What edge `e` tells its table.
-fn told_at(known: &Known<'_>, e: usize) -> Told
+fn told_at(known: &Known<'_>, e: usize) -> EdgeNumbers
     requires known { IsKnown known.now }
     requires leads { LeadsOn known.now e }
     ensures told { IsToldOn known.now e result }
     ensures slack { result.slack ≤ 2 ^ 50 }
     ensures least { IfSome result.least (λ z. z < 2 ^ 90) }
 {
-    let tail = tail_cycles(known.sites.fragments(e), known.power);
-    let slack = known.worst.slack(e);
-    let rest = known.worst.rest(e);
-    let least = plus(known.least.to_end_after(e), tail);
-    Told {
-        slack,
-        left: rest + u64::from(tail),
-        least,
-    }
+    let edge = EdgeNumbers {
+        slack: known.worst.slack(e),
+        left: known.worst.rest(e),
+        least: known.least.to_end_after(e),
+    };
+    edge.with_tail(tail_cycles(known.sites.fragments(e), known.power))
 }
 
 /// The least level for which an entry of edge `e` isn't safe, where its first fragment is a Switch.

@@ -21,6 +21,14 @@ use std::alloc::Global;
 /// One more than the greatest number of a counter.
 pub const COUNTERS: usize = 511;
 
+/// The graph and the loops of an original, and the fragments that are found beside it.
+#[derive(Clone, Copy)]
+struct Scanned<'a> {
+    graph: &'a CodeGraph,
+    tree: &'a LoopTree,
+    sites: &'a ForeignSites,
+}
+
 /// What stands of a counter on some edges: how many counts, how many exits and resets, and whether each of these edges has at most one of each, only where it turns
 /// back or leaves the counter's loop.
 #[derive(Clone, Copy, Drop)]
@@ -156,19 +164,13 @@ fn exit_of(
 }
 
 /// Whether edge `e` has at most one count of a counter, where it turns the counter's loop back, and at most one exit or reset, where it leaves that loop.
-fn fits_on(
-    graph: &CodeGraph,
-    tree: &LoopTree,
-    sites: &ForeignSites,
-    owner: Option<usize>,
-    counter: u16,
-    e: usize,
-) -> bool
-    requires found { HasFound graph.now tree.now sites.now }
-    requires within { (k : ℕ) → owner ≡ Some k → k < length tree.now.headers }
-    requires edge { e < length graph.now.code.edges }
-    ensures { result ≡ uses.fits_on graph.now tree.now sites.now owner counter e }
+fn fits_on(scanned: &Scanned<'_>, owner: Option<usize>, counter: u16, e: usize) -> bool
+    requires found { HasFound scanned.now.graph.now scanned.now.tree.now scanned.now.sites.now }
+    requires within { (k : ℕ) → owner ≡ Some k → k < length scanned.now.tree.now.headers }
+    requires edge { e < length scanned.now.graph.now.code.edges }
+    ensures { result ≡ uses.fits_on scanned.now.graph.now scanned.now.tree.now scanned.now.sites.now owner counter e }
 {
+    let Scanned { graph, tree, sites } = *scanned;
     let fragments = sites.fragments(e);
     let turns = turn_of(graph, tree, sites, owner, e);
     let exits = exit_of(graph, tree, sites, owner, e);
@@ -316,55 +318,46 @@ fn set_tally(tallies: &mut Vec<Tally>, fragment: &ForeignFragment, counter: u16,
 
 /// Takes a fragment of edge `e` into the tally of its counter, if it uses one.
 fn take_fragment(
-    graph: &CodeGraph,
-    tree: &LoopTree,
-    sites: &ForeignSites,
+    scanned: &Scanned<'_>,
     owners: &[Option<usize>],
     tallies: &mut Vec<Tally>,
     e: usize,
     fragment: &ForeignFragment,
 )
-    requires found { HasFound graph.now tree.now sites.now }
-    requires named { uses.AreNamed graph.now tree.now sites.now (length graph.now.code.edges) owners.now }
-    requires edge { e < length graph.now.code.edges }
+    requires found { HasFound scanned.now.graph.now scanned.now.tree.now scanned.now.sites.now }
+    requires named { uses.AreNamed scanned.now.graph.now scanned.now.tree.now scanned.now.sites.now (length scanned.now.graph.now.code.edges) owners.now }
+    requires edge { e < length scanned.now.graph.now.code.edges }
     requires foreign { IsForeign fragment.now }
     requires size { length tallies.old.items ≡ 511 }
     requires counts { (c : ℕ) → (slice_index_or tallies.old.items c uses.no_tally).counts < 2 ^ 32 }
     requires clears { (c : ℕ) → (slice_index_or tallies.old.items c uses.no_tally).clears < 2 ^ 32 }
     ensures size { length tallies.new.items ≡ 511 }
-    ensures taken { uses.AreTakenOne graph.now tree.now sites.now owners.now e fragment.now tallies.old.items tallies.new.items }
+    ensures taken { uses.AreTakenOne scanned.now.graph.now scanned.now.tree.now scanned.now.sites.now owners.now e fragment.now tallies.old.items tallies.new.items }
 {
     match counter_of(fragment) {
         None => {}
         Some(counter) => {
             let owner = owners[usize::from(counter)];
-            let fits = fits_on(graph, tree, sites, owner, counter, e);
+            let fits = fits_on(scanned, owner, counter, e);
             set_tally(tallies, fragment, counter, fits);
         }
     }
 }
 
 /// Takes the fragments of edge `e` into the tallies of their counters.
-fn take_edge(
-    graph: &CodeGraph,
-    tree: &LoopTree,
-    sites: &ForeignSites,
-    owners: &[Option<usize>],
-    tallies: &mut Vec<Tally>,
-    e: usize,
-)
-    requires found { HasFound graph.now tree.now sites.now }
-    requires named { uses.AreNamed graph.now tree.now sites.now (length graph.now.code.edges) owners.now }
-    requires edge { e < length graph.now.code.edges }
+fn take_edge(scanned: &Scanned<'_>, owners: &[Option<usize>], tallies: &mut Vec<Tally>, e: usize)
+    requires found { HasFound scanned.now.graph.now scanned.now.tree.now scanned.now.sites.now }
+    requires named { uses.AreNamed scanned.now.graph.now scanned.now.tree.now scanned.now.sites.now (length scanned.now.graph.now.code.edges) owners.now }
+    requires edge { e < length scanned.now.graph.now.code.edges }
     requires few { e < 262144 }
     requires size { length tallies.old.items ≡ 511 }
     requires small { uses.AreSmallTallies e tallies.old.items }
-    ensures taken { uses.AreTallied graph.now tree.now sites.now owners.now e tallies.old.items tallies.new.items }
+    ensures taken { uses.AreTallied scanned.now.graph.now scanned.now.tree.now scanned.now.sites.now owners.now e tallies.old.items tallies.new.items }
     ensures small { uses.AreSmallTallies (e + 1) tallies.new.items }
 {
-    let fragments = sites.fragments(e);
+    let fragments = scanned.sites.fragments(e);
     for fragment in fragments {
-        take_fragment(graph, tree, sites, owners, tallies, e, fragment);
+        take_fragment(scanned, owners, tallies, e, fragment);
     }
 }
 
@@ -382,6 +375,7 @@ pub fn tallies_of(
         tallies.items) }
     ensures small { IfOk result (λ tallies. uses.AreSmallTallies 262144 tallies.items) }
 {
+    let scanned = Scanned { graph, tree, sites };
     let none = Tally {
         counts: 0,
         clears: 0,
@@ -389,7 +383,7 @@ pub fn tallies_of(
     };
     let mut tallies = vec![in alloc; none; COUNTERS]?;
     for e in 0..graph.edge_count() {
-        take_edge(graph, tree, sites, owners, &mut tallies, e);
+        take_edge(&scanned, owners, &mut tallies, e);
     }
     Ok(tallies)
 }

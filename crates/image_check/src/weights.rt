@@ -1,30 +1,36 @@
 //! What the edges of an original cost with the stubs of an image of other make.
 
 ghost use Rattle.std.specs.Prelude.{◌≡◌, ◌*◌, ◌+◌, ◌<◌, ◌≤◌, ℕ, length, slice_index, IfOk, sum_by};
-ghost use Rattle.scale_base.specs.declared.stepping.Class.{Class};
 ghost use Rattle.power_model.specs.Price.{cycles_of};
 ghost use Rattle.loop_forest.specs.Tree.{LoopView};
 ghost use Rattle.image_check.specs.Known.{HasFound};
-ghost use Rattle.image_check.specs.Weights.{foreign_cost, stub_jumps, IsExtraAt, AreExtraWeights, AreStoredWeights};
+ghost use Rattle.image_check.specs.Weights.{foreign_cost, mark_of, stub_jumps, IsExtraAt, AreExtraWeights, AreStoredWeights};
 
 use flow_graph::{CodeGraph, Weights};
 use foreign_scan::{ForeignFragment, ForeignSites};
 use power_model::Costs;
-use scale_base::{Class, EdgeKind, NoMemory};
+use scale_base::{EdgeKind, Mark, NoMemory};
+use scale_sites::{mark_cost, small_costs};
 use std::alloc::Global;
+
+/// The mark for whose code a fragment stands.
+pub fn mark_of(fragment: &ForeignFragment) -> Mark
+    ensures { result ≡ mark_of fragment.now }
+{
+    match *fragment {
+        ForeignFragment::Switch { .. } => Mark::Switch,
+        ForeignFragment::Exit { counter, .. } => Mark::Exit(counter),
+        ForeignFragment::Reset { counter } => Mark::Reset(counter),
+        ForeignFragment::Count { counter } => Mark::Count(counter),
+    }
+}
 
 /// The cycles of a fragment.
 fn fragment_cycles(fragment: &ForeignFragment, costs: &Costs) -> u32
     ensures cost { result ≡ foreign_cost (cycles_of costs.now) fragment.now }
     ensures small { result ≤ 16 * 65535 }
 {
-    let (stores, loads, alus) = match *fragment {
-        ForeignFragment::Switch { .. } => (3, 3, 5),
-        ForeignFragment::Exit { .. } => (4, 5, 7),
-        ForeignFragment::Reset { .. } => (1, 0, 0),
-        ForeignFragment::Count { .. } => (2, 2, 1),
-    };
-    stores * u32::from(costs.store) + loads * u32::from(costs.load) + alus * u32::from(costs.alu)
+    mark_cost(&mark_of(fragment), costs)
 }
 
 /// The cycles of the fragments of an edge.
@@ -81,25 +87,6 @@ pub fn extra_weights(
         weights.push(extra_cycles(graph, sites, costs, e))?;
     }
     Ok(Weights::from_vec(weights))
-}
-
-/// No class costs more than 65,535 cycles.
-fn small_costs(costs: &Costs)
-    ensures { (class : Class) → cycles_of costs.now class ≤ 65535 }
-{
-    let alu = costs.of(Class::Alu);
-    let load = costs.of(Class::Load);
-    let store = costs.of(Class::Store);
-    let taken = costs.of(Class::Taken);
-    let untaken = costs.of(Class::Untaken);
-    let jump = costs.of(Class::Jump);
-    let mul = costs.of(Class::Mul);
-    let div = costs.of(Class::Div);
-    let ecall = costs.of(Class::Ecall);
-    let fence = costs.of(Class::Fence);
-    let _all = [
-        alu, load, store, taken, untaken, jump, mul, div, ecall, fence,
-    ];
 }
 
 /// By edge, the cycles of its step and those that it takes more with the stubs.

@@ -1,6 +1,7 @@
 -- Runs that keep to the lists of a jump file, and what the run of the lowered image is then.
 use Rattle.std.specs.Prelude.{◌≡◌, ℕ, ◌+◌, ◌*◌, ◌^◌, ◌<◌, ◌≤◌, max, nat_le, nat_lt, ◌==◌, ◌&&◌, Bool, false, List, length, count_by, All, None, Ok, is_some, true}
 use Rattle.std.specs.List.{Contains, list_any}
+use Rattle.scale_base.specs.declared.limits.TheConstants.{IMAGE_LIMIT}
 use Rattle.scale_base.specs.declared.stepping.Class.{Class}
 use Rattle.scale_base.specs.declared.stepping.Class.TheVariants.{Alu, Taken, Untaken, Jump}
 use Rattle.scale_base.specs.declared.stepping.Stepped.{Stepped}
@@ -76,7 +77,7 @@ pub record FollowsLowered (image lowered : Image) (notes : List JumpNote) (base 
 -- an image without a keyed segment, and the one that is stored of it with these notes
 pub record IsLoweredTo (image : Image) (notes : List JumpNote) (base : ℕ) (lowered : Image) : Type 0 where
   pub read : image_of image.file ≡ Ok image
-  pub short : length image.file ≤ 4194304
+  pub short : length image.file ≤ IMAGE_LIMIT
   pub bytes : All (λ b. b < 2 ^ 8) image.file
   pub no_key : image.keyed_segment ≡ None
   pub noted : AreJumpNotes notes

@@ -54,18 +54,12 @@ fn is_twice(notes: &[JumpNote], at: u32) -> bool
     notes.iter().filter(|n| n.at == at).count() > 1
 }
 
-fn is_in(range: &Range, at: u32) -> bool
-    ensures { result ≡ is_in at range.now }
-{
-    range.from <= at && at < range.to
-}
-
 fn has_both(text: &[Range], at: u32) -> bool
     requires { 4 ≤ at }
     ensures { result ≡ list_any (λ r. is_in (at - 4) r && is_in at r) text.now }
 {
     for range in text {
-        if is_in(range, at - 4) && is_in(range, at) {
+        if range.contains(at - 4) && range.contains(at) {
             return true;
         }
     }

@@ -21,7 +21,7 @@ use elf_image::ImageView;
 use elf_patch::{has_sections, section_count, stub_base, write_added, write_patched};
 use elf_view::{read_image, refusal_number};
 use jump_lists::{JumpNote, read_jumps};
-use scale_base::{Lowered, NoMemory, Patch, Refusal, Stop};
+use scale_base::{IMAGE_LIMIT, Lowered, NoMemory, Patch, Refusal, Stop};
 use std::alloc::Global;
 
 /// The file made is an image again.
@@ -91,7 +91,7 @@ fn tree_file(
     sorted: &[&JumpNote],
     base: u32,
 ) -> Result<Vec<u8>, NoMemory>
-    requires file { length view.now.file ≤ 4194304 }
+    requires file { length view.now.file ≤ IMAGE_LIMIT }
     requires few { length sorted.now ≤ 1024 }
     requires notes { All (λ n. IsJumpNote n.now) sorted.now }
     requires reach { block.tree_out_of_reach view.now base (map (λ n. n.now) sorted.now) ≡ None }
@@ -117,7 +117,7 @@ fn lower_at(
     base: u32,
     len: u32,
 ) -> Result<(Vec<u8>, Lowered), Stop>
-    requires file { length view.now.file ≤ 4194304 }
+    requires file { length view.now.file ≤ IMAGE_LIMIT }
     requires some { 1 ≤ length notes.now }
     requires few_notes { length notes.now ≤ 1024 }
     requires few { length near.now < 2 ^ 32 }
@@ -153,7 +153,7 @@ fn lower_all(
     notes: &[JumpNote],
     near: &[Patch],
 ) -> Result<(Vec<u8>, Lowered), Stop>
-    requires file { length view.now.file ≤ 4194304 }
+    requires file { length view.now.file ≤ IMAGE_LIMIT }
     requires some { 1 ≤ length notes.now }
     requires notes { AreJumpNotes notes.now }
     requires few { length near.now < 2 ^ 32 }
@@ -173,7 +173,7 @@ fn lower_notes(
     view: &ImageView<'_>,
     notes: &[JumpNote],
 ) -> Result<(Vec<u8>, Lowered), Stop>
-    requires file { length view.now.file ≤ 4194304 }
+    requires file { length view.now.file ≤ IMAGE_LIMIT }
     requires image { image_of view.now.file ≡ Ok view.now }
     requires notes { AreJumpNotes notes.now }
     ensures { AnswersBy (λ p. (p.0.items, p.1)) result (lowered.AfterPart (lowered.no_bad_jump view.now notes.now)
@@ -194,7 +194,7 @@ fn lower_notes(
 /// The lowered image and what was lowered, or the first refusal.
 #[tactic(auto, unfolding(crate::specs::Lowered::IsLowered))]
 fn lower_files(alloc: Global, image: &[u8], jumps: &[u8]) -> Result<(Vec<u8>, Lowered), Stop>
-    requires { length image.now ≤ 4194304 }
+    requires { length image.now ≤ IMAGE_LIMIT }
     ensures { AnswersBy (λ p. (p.0.items, p.1)) result (lowered.IsLowered image.now jumps.now) }
 {
     let notes = read_jumps(alloc, jumps)?;
@@ -209,7 +209,7 @@ fn lower_files(alloc: Global, image: &[u8], jumps: &[u8]) -> Result<(Vec<u8>, Lo
 /// outside the program header table, and a tree of comparisons for each listed jump. The answer is the bytes of the file made, and what
 /// was lowered. The first thing that is wrong is refused, in the order of `specs/Lowered.antt`.
 pub fn lower(alloc: Global, image: &[u8], jumps: &[u8]) -> Result<(Vec<u8>, Lowered), Stop>
-    requires { length image.now ≤ 4194304 }
+    requires { length image.now ≤ IMAGE_LIMIT }
     ensures given { AnswersBy (λ p. (p.0.items, p.1)) result (lowered.IsLowered image.now jumps.now) }
 
     // On each input on which the original run keeps to the lists, the stored image's run follows it.

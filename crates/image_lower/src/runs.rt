@@ -7,6 +7,8 @@ ghost use Rattle.image_lower.specs.Meets.{LoweredRunsFollow};
 ghost use Rattle.image_lower.specs.Promise.{IsLoweredSafely, LoweredAnswersAgree};
 ghost use Rattle.image_lower.specs.TreeRuns.{TreesFindTargets};
 
+use scale_base::IMAGE_LIMIT;
+
 /// A tree of comparisons leads to the target that its register holds, with the registers as they were, and costs no more
 /// than a tree of its depth.
 pub fn trees_find_targets()
@@ -22,7 +24,7 @@ pub fn lowered_runs_follow()
 /// What `lower` stores is safe: it is the file in which each pair and each noted jump is lowered, the numbers are those of that file, and
 /// its runs follow those of the original that keep to the lists.
 pub fn lowered_images_are_safe()
-    ensures { (image jumps stored : List ℕ) (counts : Lowered) → length image ≤ 4194304 → All (λ b. b < 2 ^ 8) image →
+    ensures { (image jumps stored : List ℕ) (counts : Lowered) → length image ≤ IMAGE_LIMIT → All (λ b. b < 2 ^ 8) image →
         IsLowered image jumps (Ok ((stored, counts))) → IsLoweredSafely image jumps stored counts }
 {}
 

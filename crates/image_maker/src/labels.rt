@@ -5,6 +5,7 @@ ghost use Rattle.image_maker.specs.Assembling as asm;
 ghost use Rattle.image_maker.specs.Places as places;
 
 use crate::line::{AsmError, Line};
+use scale_base::WORD_LIMIT;
 use std::alloc::Global;
 use std::collections::BTreeMap;
 
@@ -32,7 +33,7 @@ struct Labels {
 impl Labels {
     /// Adds line `k` to those before it.
     fn add(&mut self, lines: &[Line], k: usize) -> Result<(), AsmError>
-        requires few { length lines.now ≤ 131072 }
+        requires few { length lines.now ≤ WORD_LIMIT }
         requires within { k < length lines.now }
         requires placed { places.ArePlaced lines.now k self.old.table self.old.twice self.old.at }
         ensures placed { OnOk result (places.ArePlaced lines.now (k + 1) self.new.table self.new.twice self.new.at) }
@@ -54,7 +55,7 @@ impl Labels {
 
 /// The address of each label. A label that stands twice is refused.
 pub fn place_labels(alloc: Global, lines: &[Line]) -> Result<BTreeMap<u32, u32>, AsmError>
-    requires { length lines.now ≤ 131072 }
+    requires { length lines.now ≤ WORD_LIMIT }
     ensures table { IfOk result (λ table. places.IsLabelTable lines.now (length lines.now) table) }
     ensures once { IfOk result (λ _. asm.NoneIs (asm.IsTwice lines.now)) }
     ensures refused { IfErr result (λ error. asm.IsCause lines.now error) }

@@ -12,7 +12,7 @@ use crate::line::{AsmError, Line};
 use crate::plain::plain_image;
 use crate::program::make_program;
 use crate::texts::{drawn_bytes, loops_text, machine_text};
-use scale_base::NoMemory;
+use scale_base::{FILE_LIMIT, IMAGE_LIMIT, NoMemory, WORD_LIMIT};
 use std::alloc::Global;
 
 /// A made program, and the files that go with it.
@@ -30,7 +30,7 @@ pub struct Made {
 
 /// The plain image of lines that assemble.
 fn make_image(alloc: Global, lines: &[Line]) -> Result<Vec<u8>, NoMemory>
-    requires few { length lines.now ≤ 131072 }
+    requires few { length lines.now ≤ WORD_LIMIT }
     requires some { 0 < asm.words_before lines.now (length lines.now) }
     requires assemble { asm.Assemble lines.now }
     ensures lines { IfOk result (λ file. made.IsImageOf lines.now file.items) }
@@ -55,8 +55,8 @@ pub fn make(alloc: Global, number: u64, size: u32) -> Result<Made, NoMemory>
     ensures machine { IfOk result (λ it. it.machine.items ≡ texts.machine_text size) }
     ensures loops { IfOk result (λ it. it.loops.items ≡ texts.loops_text (making.headers number size)) }
     ensures input { IfOk result (λ it. it.input.items ≡ texts.drawn_bytes (making.state_at number size) 256) }
-    ensures small { IfOk result (λ it. (length it.image.items ≤ 4194304) × (length it.machine.items ≤ 1048576) ×
-        (length it.loops.items ≤ 1048576)) }
+    ensures small { IfOk result (λ it. (length it.image.items ≤ IMAGE_LIMIT) × (length it.machine.items ≤ FILE_LIMIT) ×
+        (length it.loops.items ≤ FILE_LIMIT)) }
 {
     let mut program = make_program(alloc, number, size)?;
     let image = make_image(alloc, &program.lines)?;

@@ -5,7 +5,7 @@ ghost use Rattle.image_maker.specs.PlainImage as plain;
 ghost use Rattle.image_maker.specs.HoldsWords.{HoldsWords};
 
 use byteorder::{ByteOrder, LittleEndian};
-use scale_base::NoMemory;
+use scale_base::{NoMemory, WORD_LIMIT};
 use std::alloc::Global;
 
 const START: u32 = 0x0001_0000;
@@ -39,7 +39,7 @@ fn push_words(out: &mut Vec<u8>, words: &[u32]) -> Result<(), NoMemory>
 /// An ELF file with one loaded segment, which begins with the words at 0x10000, where the program starts. Of one word or more it
 /// is an image, and they are its text.
 pub fn plain_image(alloc: Global, words: &[u32]) -> Result<Vec<u8>, NoMemory>
-    requires { length words.now ≤ 131072 }
+    requires { length words.now ≤ WORD_LIMIT }
     ensures bytes { IfOk result (λ file. file.items ≡ plain.plain_image words.now) }
     ensures image { IfOk result (λ file. 0 < length words.now → HoldsWords words.now file.items) }
 {

@@ -5,7 +5,7 @@ ghost use Rattle.image_maker.specs.Making as making;
 
 use crate::draws::Draws;
 use crate::line::Line;
-use scale_base::{BranchOp, ImmOp, Instr, LoadOp, NoMemory, RegOp, StoreOp};
+use scale_base::{BranchOp, ImmOp, Instr, LoadOp, NoMemory, RegOp, StoreOp, WORD_LIMIT};
 use std::alloc::Global;
 
 /// Where the first word stands.
@@ -213,7 +213,7 @@ pub struct Program {
 impl Program {
     /// Adds block `k`.
     fn add_block(&mut self, k: u32) -> Result<(), NoMemory>
-        requires { length self.old.lines.items ≤ 131072 }
+        requires { length self.old.lines.items ≤ WORD_LIMIT }
         ensures lines { OnOk result (self.new.lines.items ≡ self.old.lines.items ++ making.block k self.old.draws.state) }
         ensures headers { OnOk result (self.new.headers.items ≡ self.old.headers.items ++ making.header_in (length self.old.lines.items)
             self.old.draws.state) }

@@ -8,7 +8,7 @@ ghost use Rattle.image_maker.specs.Places as places;
 
 use crate::line::{AsmError, Line};
 use rv_encode::encode;
-use scale_base::Instr;
+use scale_base::{Instr, WORD_LIMIT};
 use std::alloc::Global;
 use std::collections::BTreeMap;
 
@@ -62,7 +62,7 @@ fn push_line(
     k: usize,
     table: &BTreeMap<u32, u32>,
 ) -> Result<(), AsmError>
-    requires few { length lines.now ≤ 131072 }
+    requires few { length lines.now ≤ WORD_LIMIT }
     requires within { k < length lines.now }
     requires labels { asm.HasLabels lines.now }
     requires table { places.IsLabelTable lines.now (length lines.now) table.now }
@@ -87,7 +87,7 @@ pub fn words_of(
     lines: &[Line],
     table: &BTreeMap<u32, u32>,
 ) -> Result<Vec<u32>, AsmError>
-    requires few { length lines.now ≤ 131072 }
+    requires few { length lines.now ≤ WORD_LIMIT }
     requires labels { asm.HasLabels lines.now }
     requires table { places.IsLabelTable lines.now (length lines.now) table.now }
     ensures words { IfOk result (λ words. asm.IsAssembled lines.now words.items) }

@@ -5,6 +5,7 @@ use Rattle.power_model.specs.Survey.{Survey}
 use Rattle.input_survey.specs.Bounds.{MostIsEnough, MostIsNeeded}
 use Rattle.input_survey.specs.Promised.{LinesArePromised}
 use Rattle.input_survey.specs.Surveyed.{IsSurveyed}
+use Rattle.scale_base.specs.declared.limits.TheConstants.{FILE_LIMIT, IMAGE_LIMIT}
 
 pub record SaysOfRuns (image scaled machine loops : List ℕ) (inputs : List (List ℕ)) (survey : Survey) : Type 0 where
   pub enough : MostIsEnough image machine loops inputs survey.most
@@ -13,6 +14,6 @@ pub record SaysOfRuns (image scaled machine loops : List ℕ) (inputs : List (Li
 
 -- Each survey of files that a program loads says so. As a statement for the contract of a function.
 abbrev pub SurveysSayOfRuns : Type 0
-SurveysSayOfRuns = (image scaled machine loops : List ℕ) (inputs : List (List ℕ)) (survey : Survey) → length image ≤ 4194304 →
-    length machine ≤ 1048576 → length loops ≤ 1048576 →
+SurveysSayOfRuns = (image scaled machine loops : List ℕ) (inputs : List (List ℕ)) (survey : Survey) → length image ≤ IMAGE_LIMIT →
+    length machine ≤ FILE_LIMIT → length loops ≤ FILE_LIMIT →
     IsSurveyed image scaled machine loops inputs (Ok survey) → SaysOfRuns image scaled machine loops inputs survey

@@ -17,7 +17,7 @@ use loop_file::{LoopNotes, read_loops};
 use power_model::SurveyReport;
 use program_sources::OriginalImage;
 use run_progress::{Part, Progress, Silent};
-use scale_base::{NoMemory, Stop};
+use scale_base::{FILE_LIMIT, IMAGE_LIMIT, NoMemory, STORED_LIMIT, Stop};
 use speed_sim::start_of;
 use std::alloc::Global;
 
@@ -91,13 +91,13 @@ pub fn survey_with_progress<P: Progress>(
     inputs: &[Vec<u8>],
     progress: &mut P,
 ) -> Result<SurveyReport, Stop>
-    requires image { length files.now.image.now ≤ 4194304 }
-    requires scaled { length files.now.scaled.now ≤ 8388608 }
-    requires machine { length files.now.machine.now ≤ 1048576 }
-    requires loops { length files.now.loops.now ≤ 1048576 }
+    requires image { length files.now.image.now ≤ IMAGE_LIMIT }
+    requires scaled { length files.now.scaled.now ≤ STORED_LIMIT }
+    requires machine { length files.now.machine.now ≤ FILE_LIMIT }
+    requires loops { length files.now.loops.now ≤ FILE_LIMIT }
     requires some { 1 ≤ length inputs.now }
     requires few { length inputs.now ≤ 64 }
-    requires inputs { All (λ input. length input.items ≤ 1048576) inputs.now }
+    requires inputs { All (λ input. length input.items ≤ FILE_LIMIT) inputs.now }
     ensures survey { AnswersBy survey_view result (IsSurveyed files.now.image.now files.now.scaled.now files.now.machine.now
         files.now.loops.now (map (λ input. input.items) inputs.now)) }
     ensures enough { IfOk result (λ survey. MostIsEnough files.now.image.now files.now.machine.now files.now.loops.now
@@ -124,13 +124,13 @@ pub fn survey(
     loops: &[u8],
     inputs: &[Vec<u8>],
 ) -> Result<SurveyReport, Stop>
-    requires image { length image.now ≤ 4194304 }
-    requires scaled { length scaled.now ≤ 8388608 }
-    requires machine { length machine.now ≤ 1048576 }
-    requires loops { length loops.now ≤ 1048576 }
+    requires image { length image.now ≤ IMAGE_LIMIT }
+    requires scaled { length scaled.now ≤ STORED_LIMIT }
+    requires machine { length machine.now ≤ FILE_LIMIT }
+    requires loops { length loops.now ≤ FILE_LIMIT }
     requires some { 1 ≤ length inputs.now }
     requires few { length inputs.now ≤ 64 }
-    requires inputs { All (λ input. length input.items ≤ 1048576) inputs.now }
+    requires inputs { All (λ input. length input.items ≤ FILE_LIMIT) inputs.now }
     ensures survey { AnswersBy survey_view result (IsSurveyed image.now scaled.now machine.now loops.now
         (map (λ input. input.items) inputs.now)) }
     ensures enough { IfOk result (λ survey. MostIsEnough image.now machine.now loops.now (map (λ input. input.items) inputs.now)

@@ -1,5 +1,6 @@
 -- What drafting the jump file of an image answers.
 use Rattle.std.specs.Prelude.{◌≡◌, ◌⊎◌, ℕ, ◌≤◌, List, length, map, string_bytes, Some, None, Result, Ok, Err}
+use Rattle.scale_base.specs.declared.limits.TheConstants.{FILE_LIMIT, IMAGE_LIMIT}
 use Rattle.scale_base.specs.declared.ranges.Keyed.{Keyed}
 use Rattle.scale_base.specs.declared.refusal.Refusal.{Refusal}
 use Rattle.scale_base.specs.declared.refusal.Refusal.TheVariants.{AlreadyScaled, LowerOutOfReach, NoRoom}
@@ -25,7 +26,7 @@ pub record IsLowerable (image jumps : List ℕ) : Type 0 where
 
 -- the bytes of a file that isn't too long are read as notes
 pub record IsReadAs (file : List ℕ) (notes : List JumpNote) : Type 0 where
-  pub short : length file ≤ 1048576
+  pub short : length file ≤ FILE_LIMIT
   pub read : read_jumps file ≡ Ok notes
 
 -- what is proved of notes, where the bytes are those of the image that is lowered by them
@@ -44,7 +45,7 @@ pub record IsDraftOf (original : Image) (draft : JumpDraft) : Type 0 where
   pub read : IsReadAs (string_bytes draft.file) draft.notes
   pub listed : AreListed original draft.notes draft.tables.items
   pub others : map (λ other. other.at) draft.others.items ≡ left_of original draft.notes
-  pub lowerable : length original.file ≤ 4194304 → IsLowerable original.file (string_bytes draft.file)
+  pub lowerable : length original.file ≤ IMAGE_LIMIT → IsLowerable original.file (string_bytes draft.file)
   pub proved : IsFileProved original (string_bytes draft.file) draft.notes draft.proof
 
 -- for the image of a file: the draft, or the refusal of its keyed segment

@@ -16,14 +16,8 @@ use image_lower::lower;
 use jump_lists::{JumpNotes, read_jumps};
 use jump_proofs::{JumpProof, prove_jumps};
 use jump_search::{FoundJumps, find_jumps};
-use scale_base::{NoMemory, Refusal, Stop};
+use scale_base::{FILE_LIMIT, IMAGE_LIMIT, NoMemory, Refusal, Stop};
 use std::alloc::Global;
-
-/// So many bytes of a jump file are loaded.
-const MOST_BYTES: usize = 1_048_576;
-
-/// So many bytes of an image are loaded.
-const MOST_IMAGE: usize = 4_194_304;
 
 // The tables that are found.
 fn tables_of(alloc: Global, found: &FoundJumps) -> Result<Vec<Table>, NoMemory> {
@@ -39,7 +33,7 @@ fn notes_of(alloc: Global, file: &str) -> Result<Option<JumpNotes>, NoMemory>
     ensures { IfOk result (λ notes. IfSome notes (IsReadAs file.now)) }
 {
     let bytes = file.as_bytes();
-    if bytes.len() > MOST_BYTES {
+    if bytes.len() > FILE_LIMIT {
         return Ok(None);
     }
     match read_jumps(alloc, bytes) {
@@ -51,10 +45,10 @@ fn notes_of(alloc: Global, file: &str) -> Result<Option<JumpNotes>, NoMemory>
 
 // Whether `lower` takes a file.
 fn is_taken(alloc: Global, view: &ImageView<'_>, file: &str) -> Result<bool, NoMemory>
-    ensures { IfOk result (λ taken. taken ≡ true → length view.now.file ≤ 4194304 → IsLowerable view.now.file file.now) }
+    ensures { IfOk result (λ taken. taken ≡ true → length view.now.file ≤ IMAGE_LIMIT → IsLowerable view.now.file file.now) }
 {
     let image = view.file();
-    if image.len() > MOST_IMAGE {
+    if image.len() > IMAGE_LIMIT {
         return Ok(true);
     }
     is_lowerable(alloc, image, file.as_bytes())
@@ -109,7 +103,7 @@ fn proof_by(
     if notes.count() == 0 {
         return Ok(unproved_file(alloc, view, file, notes));
     }
-    if image.len() > MOST_IMAGE {
+    if image.len() > IMAGE_LIMIT {
         return Ok(unproved_file(alloc, view, file, notes));
     }
     match lower(alloc, image, file.as_bytes()) {

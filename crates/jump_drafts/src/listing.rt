@@ -11,7 +11,7 @@ use fixed_tables::{Table, is_table_of};
 use image_lower::lower;
 use jump_lists::{JumpNote, JumpNotes};
 use jump_search::{FoundJumps, OpenJump, Reason, stands_at};
-use scale_base::{NoMemory, Range, Refusal, Stop};
+use scale_base::{IMAGE_LIMIT, NoMemory, Range, Refusal, Stop};
 use std::alloc::Global;
 
 // Whether each address is that of a word of the text.
@@ -140,7 +140,7 @@ pub fn left_jumps(
 
 /// Whether `lower` takes a jump file: it lowers the image by it, or refuses for want of reach or of room.
 pub fn is_lowerable(alloc: Global, image: &[u8], jumps: &[u8]) -> Result<bool, NoMemory>
-    requires { length image.now ≤ 4194304 }
+    requires { length image.now ≤ IMAGE_LIMIT }
     ensures { IfOk result (λ taken. taken ≡ true → IsLowerable image.now jumps.now) }
 {
     match lower(alloc, image, jumps) {

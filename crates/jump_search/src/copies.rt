@@ -5,14 +5,11 @@ use elf_image::ImageView;
 use elf_patch::write_patched;
 use elf_view::read_image;
 use image_lower::lower;
-use scale_base::{NoMemory, Patch, Range, Stop};
+use scale_base::{IMAGE_LIMIT, NoMemory, Patch, Range, Stop};
 use std::alloc::Global;
 
 /// The word of `ebreak`.
 pub const EBREAK: u32 = 0x0010_0073;
-
-/// An image is at most so long.
-const MOST_IMAGE: usize = 4_194_304;
 
 // Adds the addresses of a range at which jumps through registers stand.
 fn push_places(places: &mut Vec<u32>, view: &ImageView<'_>, range: Range) -> Result<(), NoMemory> {
@@ -54,7 +51,7 @@ fn ended(alloc: Global, image: &[u8]) -> Result<Option<Vec<u8>>, NoMemory> {
 
 /// The image in which the jumps of a jump file are lowered, and all others end the run. None where it can't be lowered.
 pub fn copy_of(alloc: Global, image: &[u8], jumps: &[u8]) -> Result<Option<Vec<u8>>, NoMemory> {
-    if image.len() > MOST_IMAGE {
+    if image.len() > IMAGE_LIMIT {
         return Ok(None);
     }
     match lower(alloc, image, jumps) {

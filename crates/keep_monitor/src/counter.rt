@@ -14,11 +14,9 @@ ghost use Rattle.keep_monitor.specs.Counted.{raised_most, judged, counted_first,
 use crate::headers::{Header, headers_at, sorted_headers};
 use crate::monitor::{is_plain, watch_next};
 use crate::slots::header_slots;
-use crate::steps::{
-    MOST_RETURNS, broken_loop, broken_return, next_count, source_of, turning_loops,
-};
+use crate::steps::{broken_loop, broken_return, next_count, source_of, turning_loops};
 use loop_file::LoopNotes;
-use scale_base::{Kept, NoMemory, Stepped};
+use scale_base::{Kept, NoMemory, RETURN_LIMIT, Stepped};
 use std::alloc::Global;
 use std::marker::Model;
 
@@ -184,7 +182,7 @@ impl LoopCounter {
         let headers = sorted_headers(alloc, &relaxed)?;
         let slots = header_slots(alloc, &relaxed)?;
         let turning = turning_loops(alloc, &notes)?;
-        let returns = Vec::with_capacity(alloc, MOST_RETURNS)?;
+        let returns = Vec::with_capacity(alloc, RETURN_LIMIT)?;
         let counts = vec![in alloc; 0; notes.count()]?;
         let most = vec![in alloc; 0; notes.count()]?;
         Ok(LoopCounter {

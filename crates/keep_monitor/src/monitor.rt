@@ -14,11 +14,10 @@ ghost use Rattle.keep_monitor.specs.Slots.{slot_of};
 use crate::headers::{Header, headers_at, sorted_headers};
 use crate::slots::{has_header, header_slots};
 use crate::steps::{
-    MOST_RETURNS, broken_loop, broken_return, count_step, move_returns, next_count, source_of,
-    turning_loops,
+    broken_loop, broken_return, count_step, move_returns, next_count, source_of, turning_loops,
 };
 use loop_file::LoopNotes;
-use scale_base::{Kept, Move, NoMemory, Stepped};
+use scale_base::{Kept, Move, NoMemory, RETURN_LIMIT, Stepped};
 use std::alloc::Global;
 use std::marker::Model;
 
@@ -181,7 +180,7 @@ impl Monitor {
         let headers = sorted_headers(alloc, &notes)?;
         let slots = header_slots(alloc, &notes)?;
         let turning = turning_loops(alloc, &notes)?;
-        let returns = Vec::with_capacity(alloc, MOST_RETURNS)?;
+        let returns = Vec::with_capacity(alloc, RETURN_LIMIT)?;
         let counts = vec![in alloc; 0; notes.count()]?;
         Ok(Monitor {
             notes,

@@ -10,11 +10,8 @@ ghost use Rattle.keep_monitor.specs.Steps.{first_of, broken_by, loop_over, leave
 
 use crate::headers::Header;
 use loop_file::{LoopNote, LoopNotes, in_extent};
-use scale_base::{Kept, Move, NoMemory, Stepped};
+use scale_base::{Kept, Move, NoMemory, RETURN_LIMIT, Stepped};
 use std::alloc::Global;
-
-/// How many return addresses a kept run has at most.
-pub const MOST_RETURNS: usize = 131_072;
 
 fn last_of(returns: &[u32]) -> Option<u32>
     ensures { result ≡ first_of (reverse returns.now) }
@@ -44,7 +41,7 @@ pub fn broken_return(step: &Stepped, returns: &[u32]) -> Option<Kept>
     match step.moved {
         Move::Local => None,
         Move::Call => {
-            if returns.len() == MOST_RETURNS {
+            if returns.len() == RETURN_LIMIT {
                 Some(Kept::BrokeDepth { at: step.pc })
             } else {
                 None

@@ -16,6 +16,7 @@ use Rattle.least_cycles.specs.declared.turns.Marks.{Marks}
 use Rattle.least_cycles.specs.declared.walks.Scratch.{Scratch}
 use Rattle.least_cycles.specs.Functions.{is_in_flags, IsNodeFlagged, AreRanksIn}
 use Rattle.least_cycles.specs.Tables.{AreNodeChains, AreReturns, AreLeading, AreFunctionLimits, AreWalksOf, AreScratch}
+use Rattle.scale_base.specs.declared.limits.TheConstants.{CYCLE_LIMIT}
 
 -- ---- the numbers
 
@@ -35,8 +36,8 @@ pub record IsCharging (v : FlowGraph) (t : LoopView) (w : ℕ → ℕ) (n : Char
   pub numbers : AreCharged (graph v) (loops v t) w n
   pub limit : ℕ → ℕ
   pub limits : AreFunctionLimits (graph v) (own_by v t w n) limit
-  pub turns : (k : ℕ) → k < length t.headers → 0 < slice_index t.least_trips k → n.turn k ≤ 2 ^ 48
-  pub charges : (k : ℕ) → k < length t.headers → loop_charge v t n k ≤ 2 ^ 48
+  pub turns : (k : ℕ) → k < length t.headers → 0 < slice_index t.least_trips k → n.turn k ≤ CYCLE_LIMIT
+  pub charges : (k : ℕ) → k < length t.headers → loop_charge v t n k ≤ CYCLE_LIMIT
 
 abbrev pub HasCharging : FlowGraph → LoopView → (ℕ → ℕ) → Type 0
 HasCharging v t w = (n : Charged) × IsCharging v t w n
@@ -76,12 +77,12 @@ cost_with costs charges e = number_in_place costs e + charge_by charges.entries.
 pub record AreSmallCharges (v : FlowGraph) (charges : Charges) : Type 0 where
   pub size : length charges.entries.items ≡ length v.code.edges
   pub within : (e l : ℕ) → option_at charges.entries.items e ≡ Some l → l < length charges.found.items
-  pub low : (l : ℕ) → number_in_place charges.found.items l ≤ 2 ^ 48
+  pub low : (l : ℕ) → number_in_place charges.found.items l ≤ CYCLE_LIMIT
 
 pub record AreCharges (v : FlowGraph) (t : LoopView) (charges : Charges) : Type 0 where
   pub entered : AreEnteredLoops v t (length v.code.edges) charges.entries.items
   pub size : length charges.found.items ≡ length t.headers
-  pub low : (l : ℕ) → number_in_place charges.found.items l ≤ 2 ^ 48
+  pub low : (l : ℕ) → number_in_place charges.found.items l ≤ CYCLE_LIMIT
 
 -- the loops that are done have their charges
 abbrev pub AreChargedTo : FlowGraph → LoopView → Charged → (ℕ → Type 0) → List ℕ → Type 0
@@ -155,7 +156,7 @@ IsHeaderFrom v t f from k = (loop_owner v t k ≡ f) × ((i : ℕ) × (from ≤ 
 
 pub record IsChargePlan (v : FlowGraph) (t : LoopView) (plan : Plan) : Type 0 where
   pub own_size : length plan.own.items ≡ length v.code.edges
-  pub own_low : (e : ℕ) → number_in_place plan.own.items e ≤ 2 ^ 48
+  pub own_low : (e : ℕ) → number_in_place plan.own.items e ≤ CYCLE_LIMIT
   pub nodes : AreNodeChains v plan.nodes
   pub ranks : AreRanksIn t.order plan.ranks.items
   pub returning : AreReturns v (length v.code.edges) plan.returning.items

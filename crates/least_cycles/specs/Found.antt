@@ -7,6 +7,7 @@ use Rattle.cost_theory.specs.Least.{Least}
 use Rattle.flow_graph.specs.FlowGraph.{FlowGraph, graph}
 use Rattle.cycle_laws.specs.Charged.{Charged, AreCharged, to_end_after}
 use Rattle.least_cycles.specs.Ends.{end_place}
+use Rattle.scale_base.specs.declared.limits.TheConstants.{CYCLE_LIMIT}
 
 pub record LeastView : Type 0 where
   -- by node, the least cost to a return of its function, and to an end of the run
@@ -17,7 +18,7 @@ pub record LeastView : Type 0 where
 
 -- the program has its worst numbers under these weights, and its worst cycles are in range
 abbrev pub HasWorstInRange : FlowGraph → Loops → (ℕ → ℕ) → Type 0
-HasWorstInRange v l w = (n : Numbers) × AreNumbers (graph v) l w n × (n.worst 0 ≤ 2 ^ 48)
+HasWorstInRange v l w = (n : Numbers) × AreNumbers (graph v) l w n × (n.worst 0 ≤ CYCLE_LIMIT)
 
 -- the view holds the numbers of nodes, and those behind edges
 pub record HoldsLeast (v : FlowGraph) (l : Loops) (n : Charged) (x : LeastView) : Type 0 where
@@ -42,7 +43,7 @@ pub record AreSmallLeast (v : FlowGraph) (x : LeastView) : Type 0 where
 pub record AreOwn (n : ℕ) (weights own : List ℕ) : Type 0 where
   pub size : length own ≡ n
   pub each : (e : ℕ) → e < n → number_in_place own e ≡ number_in_place weights e
-  pub low : (e : ℕ) → number_in_place own e ≤ 2 ^ 48
+  pub low : (e : ℕ) → number_in_place own e ≤ CYCLE_LIMIT
 
 -- the ends of the first n nodes, and behind the first n edges
 pub record AreEndsTo (v : FlowGraph) (n : Least) (k : ℕ) (ends : List (Option ℕ)) : Type 0 where

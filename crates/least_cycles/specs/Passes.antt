@@ -16,6 +16,7 @@ use Rattle.least_cycles.specs.Local.{IsWayOf, IsHopOf}
 use Rattle.least_cycles.specs.Functions.{AreNodeNumbers, ArePlacesIn, AreKinds, AreHopsOf, AreLeastRuns, addresses, is_in_flags}
 use Rattle.least_cycles.specs.Tables.{AreSmallTables, IsPrice, ArePriced}
 use Rattle.least_cycles.specs.Charging.{AreSmallCharges, cost_with, IsBodyOf, AreTurnKinds, IsCharging, HasCharging, HasWalks, AreCharges, AreChargedTo, ArePricedAt, IsChargeKnown, loop_owner, IsChargePlan}
+use Rattle.scale_base.specs.declared.limits.TheConstants.{CYCLE_LIMIT, WORD_LIMIT}
 
 -- ---- some nodes and the runs over their edges
 
@@ -23,7 +24,7 @@ use Rattle.least_cycles.specs.Charging.{AreSmallCharges, cost_with, IsBodyOf, Ar
 pub record AreRuns (r : Runs) : Type 0 where
   pub flow : IsFlowGraph r.graph.now
   pub nodes : AreNodeNumbers r.graph.now r.nodes.now
-  pub few : length r.nodes.now ≤ 131072
+  pub few : length r.nodes.now ≤ WORD_LIMIT
   pub places : ArePlacesIn r.nodes.now r.places.now
   pub size : length r.places.now ≡ length r.graph.now.code.nodes
   pub kinds : AreKinds r.graph.now r.nodes.now r.lasts.now r.steps.now
@@ -56,7 +57,7 @@ AreLeastOf r table = AreLeastRuns r.graph.now r.lasts.now r.steps.now (run_cost 
 pub record ArePriceTables (x : Tables) : Type 0 where
   pub flow : IsFlowGraph x.graph.now
   pub own : length x.own.now ≡ length x.graph.now.code.edges
-  pub low : (e : ℕ) → number_in_place x.own.now e ≤ 2 ^ 48
+  pub low : (e : ℕ) → number_in_place x.own.now e ≤ CYCLE_LIMIT
   pub tables : AreSmallTables x.graph.now x.returns.now x.exits.now
 
 abbrev pub IsPriceBy : Tables → ℕ → ℕ → Bool → Type 0

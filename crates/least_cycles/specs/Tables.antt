@@ -10,6 +10,7 @@ use Rattle.graph_algorithms.specs.Keys.{ChainView, option_at, AreChains}
 use Rattle.least_cycles.specs.Hops.{number_in_table}
 use Rattle.least_cycles.specs.Local.{lesser_cost, sum_of_both}
 use Rattle.least_cycles.specs.Functions.{is_in_flags, IsNodeFlagged}
+use Rattle.scale_base.specs.declared.limits.TheConstants.{CYCLE_LIMIT}
 
 -- ---- nodes by function
 
@@ -55,7 +56,7 @@ least_by v returns exits behind = record {
 
 -- Costs of edges, and limits of functions: a walk from its entry to each End edge of a function stays within its limit.
 pub record AreFunctionLimits (g : Graph) (own limit : ℕ → ℕ) : Type 0 where
-  pub small : (f : ℕ) → f < g.functions → limit f ≤ 2 ^ 48
+  pub small : (f : ℕ) → f < g.functions → limit f ≤ CYCLE_LIMIT
   pub way : (e : ℕ) → e < g.edges → g.target e ≡ None →
       (es : List ℕ) × EndsWith g (λ d. d ≡ e) (Some (g.entry (g.owner (g.source e)))) es ×
       (total (λ d. own d + at_some (g.callee d) limit) es ≤ limit (g.owner (g.source e)))
@@ -68,7 +69,7 @@ AreWithinLimits v limit table = (f x : ℕ) → f < length v.code.functions → 
 -- and small
 abbrev pub AreSmallAtEntries : FlowGraph → List (Option ℕ) → Type 0
 AreSmallAtEntries v table = (f x : ℕ) → f < length v.code.functions → value_beside v.code.nodes table ((graph v).entry f) ≡ Some x →
-    x ≤ 2 ^ 48
+    x ≤ CYCLE_LIMIT
 
 -- tables by node, with small numbers at the entries of functions
 pub record AreSmallTables (v : FlowGraph) (returns exits : List (Option ℕ)) : Type 0 where

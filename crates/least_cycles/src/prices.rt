@@ -8,6 +8,7 @@ ghost use Rattle.least_cycles.specs.Tables.{value_beside, least_by};
 ghost use Rattle.least_cycles.specs.Passes.{ArePriceTables, IsPriceBy, ArePricedBy};
 
 use flow_graph::CodeGraph;
+use scale_base::CYCLE_LIMIT;
 
 /// What is known of a graph where a function of it is priced.
 #[derive(Clone, Copy)]
@@ -58,7 +59,7 @@ fn called(
 
 /// A number of at most 2^48, and 0 where there is none.
 pub(crate) fn small(number: Option<u128>) -> u64
-    requires { (x : ℕ) → number ≡ Some x → x ≤ 2 ^ 48 }
+    requires { (x : ℕ) → number ≡ Some x → x ≤ CYCLE_LIMIT }
     ensures { result ≡ unwrap_or number 0 }
 {
     match number {

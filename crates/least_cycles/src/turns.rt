@@ -18,7 +18,7 @@ use crate::order::ranked;
 use crate::prices::small;
 use flow_graph::CodeGraph;
 use loop_forest::LoopTree;
-use scale_base::NoMemory;
+use scale_base::{NoMemory, WORD_LIMIT};
 use std::alloc::Global;
 
 /// What is used for one loop after the other: the place of each node in its body, and by edge whether it ends a turn and whether
@@ -76,7 +76,7 @@ fn body_nodes(
     requires loop_number { l < length tree.now.headers }
     requires size { length spots.old.items ≡ length graph.now.code.nodes }
     ensures nodes { IfOk result (λ nodes. IsBodyOf graph.now tree.now l nodes.items) }
-    ensures few { IfOk result (λ nodes. length nodes.items ≤ 131072) }
+    ensures few { IfOk result (λ nodes. length nodes.items ≤ WORD_LIMIT) }
     ensures order { IfOk result (λ nodes. IsNonDecreasingBy (number_in_place ranks.now) nodes.items) }
     ensures spots { IfOk result (λ nodes. ArePlacesIn nodes.items spots.new.items) }
     ensures size { length spots.new.items ≡ length spots.old.items }
@@ -182,7 +182,7 @@ fn turn_of(
 ) -> Result<u64, NoMemory>
     requires body { IsLoopBody body.now }
     requires turning { 0 < slice_index body.now.tree.now.least_trips body.now.number }
-    requires few { length body.now.nodes.now ≤ 131072 }
+    requires few { length body.now.nodes.now ≤ WORD_LIMIT }
     requires marks { AreChargeMarks body.now.graph.now marks.old }
     requires spots { ArePlacesIn body.now.nodes.now marks.old.spots.items }
     requires costs { length costs.now ≡ length body.now.graph.now.code.edges }

@@ -4,7 +4,8 @@ use Rattle.std.proofs.lemmas.Bool.{and_cases, both_ways}
 use Rattle.power_model.specs.Levels.{level}
 use Rattle.power_model.specs.Numbers.{PowerModel}
 use Rattle.power_model.specs.Price.{switch_time}
-use Rattle.level_tables.specs.Tables.{EdgeNumbers, pays, entry_of}
+use Rattle.level_tables.specs.Tables.{pays, entry_of}
+use Rattle.level_tables.specs.declared.edge_numbers.EdgeNumbers.{EdgeNumbers}
 use Rattle.level_tables.proofs.Laws.{entry-is}
 use Rattle.scale_base.specs.declared.edges.Edge.{Edge}
 use Rattle.flow_graph.specs.FlowGraph.{FlowGraph}

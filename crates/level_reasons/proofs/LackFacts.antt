@@ -6,7 +6,7 @@ use Rattle.std.proofs.lemmas.Bool.{leb-true, le-leb, lt-leb, both_ways, cases_lt
 use Rattle.power_model.specs.Levels.{level}
 use Rattle.power_model.specs.Numbers.{PowerModel}
 use Rattle.power_model.specs.Price.{switch_time}
-use Rattle.level_tables.specs.Tables.{EdgeNumbers}
+use Rattle.level_tables.specs.declared.edge_numbers.EdgeNumbers.{EdgeNumbers}
 use Rattle.level_reasons.specs.Reasons.{IsLack, goes_down, with_more}
 use Rattle.level_reasons.proofs.Numbers.{ceil_enough, ceil_least}
 

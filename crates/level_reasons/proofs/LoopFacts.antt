@@ -2,7 +2,7 @@
 use Rattle.std.proofs.Common.{◌≡◌, ℕ, ◌+◌, ◌*◌, ◌<◌, ◌≤◌, false, Some, ⊎_elim, ap, ◌∙◌, arith}
 use Rattle.power_model.specs.Levels.{level}
 use Rattle.power_model.specs.Numbers.{PowerModel}
-use Rattle.level_tables.specs.Tables.{EdgeNumbers}
+use Rattle.level_tables.specs.declared.edge_numbers.EdgeNumbers.{EdgeNumbers}
 use Rattle.level_reasons.specs.declared.ways.Way.{Way}
 use Rattle.level_reasons.specs.declared.shown.LoopReason.TheVariants.{NeedsTurns, Never}
 use Rattle.level_reasons.specs.Reasons.{IsLoopReason, goes_down, with_more, percent_down, percent_up}

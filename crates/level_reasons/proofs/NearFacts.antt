@@ -1,7 +1,7 @@
 -- The nearest of some ways out, and one more.
 use Rattle.std.proofs.Common.{◌≡◌, ℕ, ◌<◌, ◌≤◌, Option, Some, None, ◌⊎◌, ⊎_elim, inl, inr, refl, sym, ap, ◌∙◌, subst, arith}
 use Rattle.power_model.specs.Numbers.{PowerModel}
-use Rattle.level_tables.specs.Tables.{EdgeNumbers}
+use Rattle.level_tables.specs.declared.edge_numbers.EdgeNumbers.{EdgeNumbers}
 use Rattle.level_reasons.specs.declared.ways.Way.{Way}
 use Rattle.level_reasons.specs.Reasons.{IsLack}
 use Rattle.level_reasons.specs.Ways.{IsWayOf, IsNearestKept, IsNearerOf}

@@ -3,9 +3,7 @@ use Rattle.std.specs.Prelude.{◌≡◌, ℕ, ◌^◌, ◌<◌, Bool, length, sl
 use Rattle.power_model.specs.Numbers.{IsPowerModel}
 use Rattle.flow_graph.specs.FlowGraph.{IsFlowGraph}
 use Rattle.loop_forest.specs.Tree.{IsLoopTree}
-use Rattle.level_tables.specs.Tables.{EdgeNumbers}
 use Rattle.level_reasons.specs.declared.numbered.Numbered.{Numbered}
-use Rattle.level_reasons.specs.declared.numbered.Told.{Told}
 use Rattle.level_reasons.specs.Reasons.{ProgramNumbers}
 
 -- a machine, a graph and its loops, a starting level, and as many numbers as there are edges and loops
@@ -26,6 +24,3 @@ pub record HoldsNumbers (x : Numbered) (n : ProgramNumbers) : Type 0 where
   pub left : (e : ℕ) → e < length x.graph.now.code.edges → slice_get x.worst.now.rests e ≡ Some (n.told e).left
   pub least : (e : ℕ) → e < length x.graph.now.code.edges → slice_get x.least.now.after e ≡ Some (n.told e).least
   pub turn : (k : ℕ) → k < length x.tree.now.headers → slice_get x.worst.now.iteration k ≡ Some (n.turn k)
-
-abbrev pub told_view : Told → EdgeNumbers
-told_view x = record { slack = x.slack; left = x.left; least = x.least }

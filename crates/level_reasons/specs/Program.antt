@@ -1,5 +1,6 @@
 -- The reasons of a program: what the bytes of an image, of a machine file and of a loop file give.
-use Rattle.std.specs.Prelude.{◌≡◌, ℕ, ◌^◌, ◌≤◌, List, Some, Result, Ok, Err}
+use Rattle.std.specs.Prelude.{◌≡◌, ℕ, ◌≤◌, List, Some, Result, Ok, Err}
+use Rattle.scale_base.specs.declared.limits.TheConstants.{CYCLE_LIMIT}
 use Rattle.scale_base.specs.declared.refusal.Refusal.{Refusal}
 use Rattle.scale_base.specs.declared.summary.Summary.{Summary}
 use Rattle.scale_base.specs.Image.{Image, image_of}
@@ -38,7 +39,7 @@ pub record IsProgramShown (power : PowerModel) (image : Image) (notes : List Loo
   pub tree_is : IsTreeOf code notes tree
   pub numbers_are : AreNumbers (graph code) (loops code tree) (plain_weights power image code) numbers
   pub least_are : AreCharged (graph code) (loops code tree) (plain_weights power image code) least
-  pub short : numbers.worst 0 ≤ 2 ^ 48
+  pub short : numbers.worst 0 ≤ CYCLE_LIMIT
   pub worst : shown.worst ≡ numbers.worst 0
   pub start : slowest_of power (numbers.worst 0) ≡ Some shown.start
   pub edges : AreEdgeLines power code (numbers_of code tree (plain_weights power image code) numbers least) shown.start shown.edges.items

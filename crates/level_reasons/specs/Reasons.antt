@@ -9,7 +9,8 @@ use Rattle.scale_base.specs.declared.edges.EdgeKind.{EdgeKind}
 use Rattle.scale_base.specs.declared.edges.EdgeKind.TheVariants as kinds
 use Rattle.power_model.specs.Numbers.{PowerModel}
 use Rattle.cost_theory.specs.Graph.{leaves}
-use Rattle.level_tables.specs.Tables.{EdgeNumbers, is_switch_in_time, pays, entry_of}
+use Rattle.level_tables.specs.Tables.{is_switch_in_time, pays, entry_of}
+use Rattle.level_tables.specs.declared.edge_numbers.EdgeNumbers.{EdgeNumbers}
 use Rattle.flow_graph.specs.FlowGraph.{FlowGraph, graph}
 use Rattle.loop_forest.specs.Tree.{LoopView, loops}
 use Rattle.level_reasons.specs.declared.shown.EdgeReason.{EdgeReason}

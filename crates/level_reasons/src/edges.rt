@@ -2,13 +2,13 @@
 
 ghost use Rattle.std.specs.Prelude.{◌≡◌, ◌<◌, ◌^◌, ◌&&◌, nat_lt, length, IfSome, IfOk};
 ghost use Rattle.level_tables.specs.Tables.{entry_of};
-ghost use Rattle.level_reasons.specs.Kept.{IsNumbered, HoldsNumbers, told_view};
+ghost use Rattle.level_reasons.specs.Kept.{IsNumbered, HoldsNumbers};
 ghost use Rattle.level_reasons.specs.Reasons.{ProgramNumbers, IsEdgeReason, AreEdgeLines, can_switch};
 
 use crate::lacks::{lack_of, percent_down, percent_up};
-use crate::numbered::{Numbered, Told, told_at};
+use crate::numbered::{Numbered, told_at};
 use crate::shown::{EdgeLine, EdgeReason};
-use level_tables::entry;
+use level_tables::{EdgeNumbers, entry};
 use power_model::Power;
 use scale_base::{EdgeKind, NoMemory};
 use std::alloc::Global;
@@ -21,10 +21,10 @@ pub fn can_switch(kind: EdgeKind) -> bool
 }
 
 /// Why a job at a level stays there on an edge, or to which level it goes.
-fn edge_reason(power: &Power, level: u8, told: Told) -> EdgeReason
+fn edge_reason(power: &Power, level: u8, told: EdgeNumbers) -> EdgeReason
     requires level { level < length power.now.levels }
     requires least { IfSome told.least (λ z. z < 2 ^ 90) }
-    ensures { IsEdgeReason power.now level (told_view told) result }
+    ensures { IsEdgeReason power.now level told result }
 {
     if level == 0 {
         return EdgeReason::AlreadySlowest;
@@ -37,11 +37,11 @@ fn edge_reason(power: &Power, level: u8, told: Told) -> EdgeReason
 }
 
 /// Why it stays there.
-fn stays(power: &Power, level: u8, told: Told) -> EdgeReason
+fn stays(power: &Power, level: u8, told: EdgeNumbers) -> EdgeReason
     requires above { 0 < level }
     requires level { level < length power.now.levels }
-    requires stays { entry_of power.now (told_view told) level ≡ level }
-    ensures { IsEdgeReason power.now level (told_view told) result }
+    requires stays { entry_of power.now told level ≡ level }
+    ensures { IsEdgeReason power.now level told result }
 {
     let lack = lack_of(power, level, told);
     if lack == 0 {

@@ -1,17 +1,16 @@
 //! What the slack of an edge lacks.
 
 ghost use Rattle.std.specs.Prelude.{◌≡◌, ◌<◌, ◌^◌, length};
-ghost use Rattle.level_reasons.specs.Kept.{told_view};
 ghost use Rattle.level_reasons.specs.Reasons.{IsLack, percent_down, percent_up};
 
-use crate::numbered::Told;
+use level_tables::EdgeNumbers;
 use power_model::Power;
 
 /// The cycles that the slack of an edge lacks for a switch from a level to the next lower one to be in time; 0 where it is.
-pub fn lack_of(power: &Power, level: u8, told: Told) -> u128
+pub fn lack_of(power: &Power, level: u8, told: EdgeNumbers) -> u128
     requires above { 0 < level }
     requires level { level < length power.now.levels }
-    ensures lack { IsLack power.now level (told_view told) result }
+    ensures lack { IsLack power.now level told result }
     ensures small { result < 2 ^ 98 }
 {
     let lower = level - 1;

@@ -5,7 +5,8 @@ use Rattle.std.proofs.lemmas.Bool.Decides.{nat_tests}
 use Rattle.power_model.specs.Levels.{level}
 use Rattle.power_model.specs.Numbers.{PowerModel}
 use Rattle.power_model.specs.Price.{switch_time}
-use Rattle.level_tables.specs.Tables.{EdgeNumbers, is_switch_in_time, pays, meets_both}
+use Rattle.level_tables.specs.Tables.{is_switch_in_time, pays, meets_both}
+use Rattle.level_tables.specs.declared.edge_numbers.EdgeNumbers.{EdgeNumbers}
 use Rattle.level_tables.specs.Budgets.{is_switch_in_budget, meets_in_budget}
 
 le_less : (x y d : ℕ) → nat_le (x + d) (y + d) ≡ true → nat_le x y ≡ true

@@ -8,7 +8,8 @@ use Rattle.power_model.specs.Levels.{level, AreRanked}
 use Rattle.power_model.specs.Numbers.{PowerModel, IsPowerModel}
 use Rattle.power_model.specs.Price.{switch_time}
 use Rattle.level_tables.specs.Search.{least_below}
-use Rattle.level_tables.specs.Tables.{EdgeNumbers, IsEntryFor, entry_by, nibbles, nibble, word_by, pays, behind_turns, goes_lowest, tally_shift, tally_from}
+use Rattle.level_tables.specs.Tables.{IsEntryFor, entry_by, nibbles, nibble, word_by, pays, behind_turns, goes_lowest, tally_shift, tally_from}
+use Rattle.level_tables.specs.declared.edge_numbers.EdgeNumbers.{EdgeNumbers}
 use Rattle.level_tables.specs.Budgets.{is_switch_in_budget, meets_in_budget}
 use Rattle.level_tables.specs.Laws.{LowestGoes, TalliesAreSafe, TalliesAreSafeInTime}
 use Rattle.level_tables.proofs.Searching.{IsFound, first-none, first-some, least-is}

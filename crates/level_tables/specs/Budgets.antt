@@ -6,7 +6,8 @@ use Rattle.power_model.specs.Numbers.{PowerModel}
 use Rattle.power_model.specs.Price.{switch_time}
 use Rattle.power_model.specs.Switches.{period}
 use Rattle.level_tables.specs.declared.by_level.LevelBudgets.{LevelBudgets}
-use Rattle.level_tables.specs.Tables.{EdgeNumbers, pays}
+use Rattle.level_tables.specs.Tables.{pays}
+use Rattle.level_tables.specs.declared.edge_numbers.EdgeNumbers.{EdgeNumbers}
 
 -- The worst cycles are within the budget of the starting level, and no budget is later than the deadline.
 pub record AreBudgets (power : PowerModel) (budget : ℕ → ℕ) (start worst : ℕ) : Type 0 where

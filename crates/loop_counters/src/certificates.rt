@@ -9,6 +9,7 @@ use crate::quiet::quiet_of;
 use crate::scope::Scope;
 use crate::turning::find_turns;
 use crate::turns::{Turns, turns_of};
+use crate::unturned::{UNTURNED, is_turned, no_turns};
 use elf_image::ImageView;
 use flow_graph::CodeGraph;
 use loop_forest::LoopTree;
@@ -165,6 +166,17 @@ fn certificate_of(
     })
 }
 
+// A certificate of a loop that no run turns, by x0.
+fn unturned(alloc: Global, scope: Scope<'_>) -> Result<StackCertificate, NoMemory> {
+    let turns = no_turns(alloc, &scope)?;
+    let choice = Choice {
+        place: Place::Register(0),
+        limits: UNTURNED,
+        turns,
+    };
+    certificate_of(alloc, scope, choice)
+}
+
 // A certificate by what each turn does.
 fn certificate_by(alloc: Global, table: TurnTable) -> StackCertificate {
     StackCertificate {
@@ -223,6 +235,9 @@ pub fn find_certificate(
     let scope = Scope::new(alloc, view, graph, tables, tree.header(k), tree.body(k))?;
     if !scope.begins_at_header() {
         return Ok(None);
+    }
+    if !is_turned(&scope) {
+        return Ok(Some(unturned(alloc, scope)?));
     }
     let register = choose_register(alloc, &scope)?;
     let place = choose_word(alloc, &scope, register)?;

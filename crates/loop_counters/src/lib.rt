@@ -14,6 +14,7 @@ mod scope;
 mod stores;
 mod turning;
 mod turns;
+mod unturned;
 
 pub use certificates::find_certificate;
 pub use heights::heights_of;

@@ -2,6 +2,7 @@
 -- is drafted only where the loops are taken as it notes them.
 use Rattle.std.specs.Prelude.{codes, ◌≡◌, ℕ, ◌^◌, ◌<◌, ◌≤◌, ◌⊎◌, Bool, true, false, List, length, count_by, Option, Some, None, Result, Ok, Err}
 use Rattle.std.specs.List.{All}
+use Rattle.scale_base.specs.declared.limits.TheConstants.{FILE_LIMIT}
 use Rattle.scale_base.specs.declared.ranges.Keyed.{Keyed}
 use Rattle.scale_base.specs.declared.refusal.Refusal.{Refusal}
 use Rattle.scale_base.specs.declared.refusal.Refusal.TheVariants.{AlreadyScaled, TooManyLoops, TooLarge}
@@ -24,7 +25,7 @@ filled_most pieces = filled most_turns pieces
 
 -- with bounds filled in, the file of pieces is short enough to be loaded
 abbrev pub IsShort : List Piece → Type 0
-IsShort pieces = length (filled_most pieces) ≤ 1048576
+IsShort pieces = length (filled_most pieces) ≤ FILE_LIMIT
 
 -- ---- a draft
 
@@ -70,7 +71,7 @@ pub record IsDraftOf (original : Image) (draft : LoopDraft) : Type 0 where
 -- Why the file of pieces isn't read: it is too long, or what the call answers that reads it.
 abbrev pub ArePiecesUnread : Image → List Piece → Refusal → Type 0
 ArePiecesUnread original pieces refusal =
-    ((1048576 < length (filled_most pieces)) × (refusal ≡ TooLarge (codes "LOOPS"))) ⊎ (IsShort pieces × (read_loops original (filled_most pieces) ≡ Err refusal))
+    ((FILE_LIMIT < length (filled_most pieces)) × (refusal ≡ TooLarge (codes "LOOPS"))) ⊎ (IsShort pieces × (read_loops original (filled_most pieces) ≡ Err refusal))
 
 -- Why pieces are refused: their file isn't read, or what the call answers that builds its loops.
 abbrev pub ArePiecesRefused : Image → FlowGraph → List Piece → Refusal → Type 0

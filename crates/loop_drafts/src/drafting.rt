@@ -29,13 +29,10 @@ use loop_file::{LoopNote, LoopNotes, read_loops};
 use loop_forest::LoopTree;
 use loop_tree::build_loops;
 use run_progress::Progress;
-use scale_base::{Name, NoMemory, Refusal, Stop};
+use scale_base::{FILE_LIMIT, Name, NoMemory, Refusal, Stop};
 use scale_sites::counters;
 use std::alloc::Global;
 use turn_counts::Turns;
-
-/// So many bytes of a loop file are loaded.
-const MOST_BYTES: usize = 1_048_576;
 
 const MOST_LOOPS: usize = 4096;
 
@@ -120,7 +117,7 @@ fn read_pieces(alloc: Global, view: &ImageView<'_>, pieces: &[Piece]) -> Result<
 {
     let text = filled_text(alloc, pieces, GREATEST_BOUND)?;
     let bytes = text.as_bytes();
-    if bytes.len() > MOST_BYTES {
+    if bytes.len() > FILE_LIMIT {
         return Err(too_long(alloc));
     }
     read_loops(alloc, bytes, view)

@@ -120,6 +120,9 @@ fn push_way(text: &mut String, counter: Counter) -> Result<(), AllocError> {
 // Adds the bound of a counter, and why it is one.
 fn push_bound(text: &mut String, counter: Counter) -> Result<(), AllocError> {
     let bound = counter.bound();
+    if bound == 0 {
+        return text.push_str("# no entry takes a back edge\nbound = 0\n");
+    }
     push_counted(text, counter.place)?;
     push_way(text, counter)?;
     write!(text, "\nbound = {bound}\n")

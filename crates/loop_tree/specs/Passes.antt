@@ -1,5 +1,6 @@
 -- Scaffold: what the passes over the notes of a program's loops find.
 use Rattle.std.specs.Prelude.{◌≡◌, ◌≢◌, ℕ, ◌+◌, ◌<◌, ◌≤◌, ◌↔◌, ◌⊎◌, Bool, true, List, length, slice_get, slice_index, Result, Ok, Err, Some}
+use Rattle.scale_base.specs.declared.limits.TheConstants.{WORD_LIMIT}
 use Rattle.scale_base.specs.declared.refusal.Refusal.{Refusal}
 use Rattle.scale_base.specs.declared.refusal.Refusal.TheVariants.{SideEntry, TooDeep}
 use Rattle.cost_theory.specs.Graph.{sum_below, only}
@@ -28,7 +29,7 @@ pub record IsCountBelow (nodes : List ℕ) (at n : ℕ) : Type 0 where
 -- what is so of the graph of a program
 pub record IsSmallGraph (v : FlowGraph) : Type 0 where
   pub flow : IsFlowGraph v
-  pub few : length v.code.nodes ≤ 131072
+  pub few : length v.code.nodes ≤ WORD_LIMIT
 
 -- by loop, the number of its header's node
 pub record AreHeaderNumbers (v : FlowGraph) (notes : List LoopNote) (headers : List ℕ) : Type 0 where

@@ -10,7 +10,7 @@ use Rattle.image_lower.specs.FarJumps.{is_in_table}
 use Rattle.image_lower.specs.Trees.{fits}
 use Rattle.loop_versions.specs.declared.pieces.Piece.{Piece}
 use Rattle.loop_versions.specs.declared.pieces.Site.{Site}
-use Rattle.loop_versions.specs.Fitting.{origin, stands_for, are_right, is_free, are_free, are_there, is_site_right, are_fit, ways}
+use Rattle.loop_versions.specs.Fitting.{origin, begins, calls_at, stays_in, stands_for, are_right, is_free, are_free, are_there, is_site_right, are_fit, ways}
 
 pub each_passes : {A : Type 0} (p : A → Bool) (xs : List A) → list_all p xs ≡ true → All (λ x. p x ≡ true) xs
 each_passes p [] e = All-nil (λ x. p x ≡ true)
@@ -49,13 +49,15 @@ pub record IsRightSite (image : Image) (pieces : List Piece) (sites : List Site)
   pub word : is_word_address image s.at ≡ true
   pub once : count_by (λ (o : Site). o.at == s.at) sites ≡ 1
   pub there : origin pieces base s.to ≡ s.at
+  pub calls : begins (calls_at pieces base s.to) (calls_at pieces base s.at) ≡ true
   pub near : fits (jump s.at s.to) ≡ true
 
 pub right_site : (image : Image) (pieces : List Piece) (sites : List Site) (base : ℕ) (s : Site) → is_site_right image pieces sites base s ≡ true → IsRightSite image pieces sites base s
 right_site image pieces sites base s h =
     let count = count_by (λ (o : Site). o.at == s.at) sites in
-    let a = and_parts (is_word_address image s.at && not (is_in_table image.file s.at) && (count == 1) && stands_for pieces base s.to s.at) (fits (jump s.at s.to)) h in
+    let z = and_parts (is_word_address image s.at && not (is_in_table image.file s.at) && (count == 1) && stands_for pieces base s.to s.at && stays_in pieces base s.at s.to) (fits (jump s.at s.to)) h in
+    let a = and_parts (is_word_address image s.at && not (is_in_table image.file s.at) && (count == 1) && stands_for pieces base s.to s.at) (stays_in pieces base s.at s.to) z.0 in
     let b = and_parts (is_word_address image s.at && not (is_in_table image.file s.at) && (count == 1)) (stands_for pieces base s.to s.at) a.0 in
     let c = and_parts (is_word_address image s.at && not (is_in_table image.file s.at)) (count == 1) b.0 in
     let d = and_parts (is_word_address image s.at) (not (is_in_table image.file s.at)) c.0 in
-    record { word = d.0; once = eqb-true count 1 c.1; there = eqb-true (origin pieces base s.to) s.at b.1; near = a.1 }
+    record { word = d.0; once = eqb-true count 1 c.1; there = eqb-true (origin pieces base s.to) s.at b.1; calls = a.1; near = z.1 }

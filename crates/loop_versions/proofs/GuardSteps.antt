@@ -58,7 +58,7 @@ next_is : (pc : ℕ) → pc + 4 < 2 ^ 32 → plus pc 4 ≡ pc + 4
 next_is pc h = omega arith
 
 -- a register that isn't x0 gets a value, and the next instruction follows
-set_step : (env : Setting) (s : State) (i : Instr) (rd v value : ℕ) (regs : List ℕ) → InstrStands env s.bytes s.pc i → performs env s i i ≡ sets env s i rd v → 0 < rd → v ≡ value → slice_set s.regs rd value ≡ regs
+pub set_step : (env : Setting) (s : State) (i : Instr) (rd v value : ℕ) (regs : List ℕ) → InstrStands env s.bytes s.pc i → performs env s i i ≡ sets env s i rd v → 0 < rd → v ≡ value → slice_set s.regs rd value ≡ regs
     → step env s ≡ goes (stepped env s i false None (plus s.pc 4)) (record s { pc = s.pc + 4; regs = regs })
 set_step env s i rd v value regs h is some e f =
     performed env s i h ∙ (is ∙ put s (stepped env s i false None (plus s.pc 4)) (plus s.pc 4) (s.pc + 4) (with_reg s.regs rd v) regs

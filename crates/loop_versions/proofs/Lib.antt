@@ -3,6 +3,7 @@ pub mod Moved
 pub mod Reach
 pub mod Free
 pub mod Parts
+pub mod OpenCalls
 pub mod Placed
 pub mod Sites
 pub mod Fit

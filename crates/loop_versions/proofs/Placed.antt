@@ -1,13 +1,13 @@
 -- Pieces that stand one behind the other: where each stands, and what has been tested of it.
 use Rattle.std.proofs.Common.{◌≡◌, ℕ, ◌+◌, ◌*◌, ◌<◌, ◌≤◌, Bool, true, false, List, [], ◌∷◌, ◌++◌, length, Some, arith, refl, sym, ap, subst, ◌∙◌, append_assoc, length-append, inl, inr}
 use Rattle.std.specs.Prelude.{◌==◌, ◌&&◌, ◌||◌, nat_le, nat_lt}
-use Rattle.std.proofs.lemmas.Bool.{and_parts, or_cases, cond-true, cond-false, eqb-true, leb-true, ltb-true, le-leb, lt-ltb, false_from_ne_true}
+use Rattle.std.proofs.lemmas.Bool.{and_parts, or_cases, cond-true, cond-false, eqb-true, leb-true, ltb-true, le-leb, false_from_ne_true}
 use Rattle.scale_base.specs.declared.instruction.Instr.{Instr}
 use Rattle.scale_base.specs.Image.{Image, is_word_address}
 use Rattle.loop_versions.specs.declared.pieces.Piece.{Piece}
-use Rattle.loop_versions.specs.declared.pieces.Piece.TheVariants.{Copied, Branched, Jumped, Bridge, Guard}
+use Rattle.loop_versions.specs.declared.pieces.Piece.TheVariants.{Copied, Branched, Jumped, Bridge, Guard, Entered, Returned}
 use Rattle.loop_versions.specs.declared.pieces.Site.{Site}
-use Rattle.loop_versions.specs.Pieces.{origin_of, piece_len, behind, piece_at, piece_code, pieces_code, is_extra, in_extra}
+use Rattle.loop_versions.specs.Pieces.{origin_of, piece_len, behind, piece_at, piece_code, pieces_code, extra_len, in_extra}
 use Rattle.loop_versions.specs.Fitting.{is_right, are_right, is_free, ways, are_free}
 use Rattle.loop_versions.proofs.Parts.{code_len}
 
@@ -17,6 +17,8 @@ len_some (Branched at to) = omega arith
 len_some (Jumped at to) = omega arith
 len_some (Bridge at to) = omega arith
 len_some (Guard at larger smaller limit to) = omega arith
+len_some (Entered at to end) = omega arith
+len_some (Returned at to) = omega arith
 
 len_few : (p : Piece) → piece_len p ≤ 9
 len_few (Copied at) = omega arith
@@ -24,12 +26,23 @@ len_few (Branched at to) = omega arith
 len_few (Jumped at to) = omega arith
 len_few (Bridge at to) = omega arith
 len_few (Guard at larger smaller limit to) = omega arith
+len_few (Entered at to end) = omega arith
+len_few (Returned at to) = omega arith
+
+pub extra_few : (p : Piece) → extra_len p ≤ piece_len p
+extra_few (Copied at) = omega arith
+extra_few (Branched at to) = omega arith
+extra_few (Jumped at to) = omega arith
+extra_few (Bridge at to) = omega arith
+extra_few (Guard at larger smaller limit to) = omega arith
+extra_few (Entered at to end) = omega arith
+extra_few (Returned at to) = omega arith
 
 -- nothing of pieces lies in front of them
 extra_low : (place : ℕ) (ps : List Piece) (a : ℕ) → in_extra place ps a ≡ true → place ≤ a
 extra_low place [] a h = let never : ⊥ = cc in absurd never
-extra_low place (p ∷ ps) a h = elim (or_cases (is_extra p && nat_le place a && nat_lt a (behind place p)) (in_extra (behind place p) ps a) h) [
-  | inl here ↦ leb-true place a (and_parts (is_extra p) (nat_le place a) (and_parts (is_extra p && nat_le place a) (nat_lt a (behind place p)) here).0).1
+extra_low place (p ∷ ps) a h = elim (or_cases (nat_le place a && nat_lt a (place + 4 * extra_len p)) (in_extra (behind place p) ps a) h) [
+  | inl here ↦ leb-true place a (and_parts (nat_le place a) (nat_lt a (place + 4 * extra_len p)) here).0
   | inr later ↦ let low = extra_low (behind place p) ps a later in omega (arith, low)
 ]
 
@@ -41,9 +54,9 @@ or_false_left : (a b : Bool) → a ≡ false → (a || b) ≡ b
 or_false_left true b h = let never : ⊥ = cc in absurd never
 or_false_left false b h = refl
 
-and_two : (a b c : Bool) → b ≡ true → c ≡ true → (a && b && c) ≡ a
-and_two true b c p q = rw (p, q) refl
-and_two false b c p q = refl
+and_true : (a b : Bool) → a ≡ true → (a && b) ≡ b
+and_true true b h = refl
+and_true false b h = let never : ⊥ = cc in absurd never
 
 and_last : (a c : Bool) → c ≡ false → (a && c) ≡ false
 and_last true c h = h
@@ -67,7 +80,7 @@ module _ (image : Image) (pieces : List Piece) (sites : List Site) (base : ℕ) 
     pub word : is_word_address image (origin_of p) ≡ true
     pub right : is_right image pieces base v p ≡ true
     pub free : is_free (ways pieces sites base) 8 v ≡ true
-    pub extra : (a : ℕ) → v ≤ a → a < behind v p → in_extra place ps a ≡ is_extra p
+    pub extra : (a : ℕ) → v ≤ a → a < behind v p → in_extra place ps a ≡ nat_lt a (v + 4 * extra_len p)
 
   -- ---- parts of the tests
 
@@ -120,8 +133,8 @@ module _ (image : Image) (pieces : List Piece) (sites : List Site) (base : ℕ) 
         free = (first_free place p ps free).0;
         extra = λ a low high.
             let late : in_extra (behind place p) ps a ≡ false = false_from_ne_true (in_extra (behind place p) ps a) (λ on. let above = extra_low (behind place p) ps a on in omega (arith, above, high)) in
-            or_false_right (is_extra p && nat_le place a && nat_lt a (behind place p)) (in_extra (behind place p) ps a) late
-            ∙ and_two (is_extra p) (nat_le place a) (nat_lt a (behind place p)) (le-leb place a low) (lt-ltb a (behind place p) high);
+            or_false_right (nat_le place a && nat_lt a (place + 4 * extra_len p)) (in_extra (behind place p) ps a) late
+            ∙ and_true (nat_le place a) (nat_lt a (place + 4 * extra_len p)) (le-leb place a low);
       }
 
   place_later : (place : ℕ) (q : Piece) (ps : List Piece) (v : ℕ) (p : Piece) → AreRight place (q ∷ ps) → IsPlaced (behind place q) ps v p → IsPlaced place (q ∷ ps) v p
@@ -137,8 +150,9 @@ module _ (image : Image) (pieces : List Piece) (sites : List Site) (base : ℕ) 
         right = is.right;
         free = is.free;
         extra = λ a low high.
-            let past : nat_lt a (behind place q) ≡ false = false_from_ne_true (nat_lt a (behind place q)) (λ on. let less = ltb-true a (behind place q) on in omega (arith, less, low, at)) in
-            or_false_left (is_extra q && nat_le place a && nat_lt a (behind place q)) (in_extra (behind place q) ps a) (and_last (is_extra q && nat_le place a) (nat_lt a (behind place q)) past)
+            let few = extra_few q in
+            let past : nat_lt a (place + 4 * extra_len q) ≡ false = false_from_ne_true (nat_lt a (place + 4 * extra_len q)) (λ on. let less = ltb-true a (place + 4 * extra_len q) on in omega (arith, less, low, at, few)) in
+            or_false_left (nat_le place a && nat_lt a (place + 4 * extra_len q)) (in_extra (behind place q) ps a) (and_last (nat_le place a) (nat_lt a (place + 4 * extra_len q)) past)
             ∙ is.extra a low high;
       }
 
@@ -173,12 +187,13 @@ module _ (image : Image) (pieces : List Piece) (sites : List Site) (base : ℕ) 
   extra_within place [] a right h = let never : ⊥ = cc in absurd never
   extra_within place (p ∷ ps) a right h =
       let e = first_len place p ps right in
-      elim (or_cases (is_extra p && nat_le place a && nat_lt a (behind place p)) (in_extra (behind place p) ps a) h) [
+      let few = extra_few p in
+      elim (or_cases (nat_le place a && nat_lt a (place + 4 * extra_len p)) (in_extra (behind place p) ps a) h) [
         | inl here ↦
-            let x = and_parts (is_extra p && nat_le place a) (nat_lt a (behind place p)) here in
-            let low = leb-true place a (and_parts (is_extra p) (nat_le place a) x.0).1 in
-            let high = ltb-true a (behind place p) x.1 in
-            (low, omega (arith, high, e))
+            let x = and_parts (nat_le place a) (nat_lt a (place + 4 * extra_len p)) here in
+            let low = leb-true place a x.0 in
+            let high = ltb-true a (place + 4 * extra_len p) x.1 in
+            (low, omega (arith, high, e, few))
         | inr later ↦
             let rest = extra_within (behind place p) ps a (first_of_right place p ps right).others later in
             (omega (arith, rest.0), omega (arith, rest.1, e))

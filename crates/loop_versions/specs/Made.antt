@@ -1,6 +1,7 @@
 -- The file that is made: the original one with a jump in place of each site, and the pieces as a segment of their own.
 use Rattle.std.specs.Prelude.{◌≡◌, ℕ, ◌*◌, ◌^◌, ◌<◌, ◌≤◌, true, false, All, List, length, map, None, Ok}
 use Rattle.std.specs.List.{flat_map}
+use Rattle.scale_base.specs.declared.limits.TheConstants.{IMAGE_LIMIT}
 use Rattle.scale_base.specs.declared.ranges.Patch.{Patch}
 use Rattle.scale_base.specs.Image.{Image, image_of}
 use Rattle.scale_base.specs.Word.{word_of}
@@ -30,7 +31,7 @@ module _ (image : Image) where
 -- an image without a keyed segment, and the one that is made of it with pieces and sites that fit
 pub record IsVersioned (image versioned : Image) (pieces : List Piece) (sites : List Site) (base : ℕ) : Type 0 where
   pub read : image_of image.file ≡ Ok image
-  pub short : length image.file ≤ 4194304
+  pub short : length image.file ≤ IMAGE_LIMIT
   pub bytes : All (λ b. b < 2 ^ 8) image.file
   pub few : length pieces ≤ 4096
   pub room : is_full image.file ≡ false

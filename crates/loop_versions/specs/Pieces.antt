@@ -7,12 +7,14 @@ use Rattle.scale_base.specs.declared.instruction.ImmOp.TheVariants.{Addi}
 use Rattle.scale_base.specs.declared.instruction.RegOp.TheVariants.{Add, Sub}
 use Rattle.scale_base.specs.declared.instruction.Instr.{Instr}
 use Rattle.scale_base.specs.declared.instruction.Instr.TheVariants as instr
+use Rattle.scale_base.specs.Arith.{plus}
 use Rattle.scale_base.specs.Image.{Image}
 use Rattle.code_text.specs.Text.{text_of, instr_at}
 use Rattle.rv_encode.specs.Jumps.{distance}
+use Rattle.stub_writer.specs.Fragments.{hi, lo}
 use Rattle.stub_writer.specs.Stubs.{jump}
 use Rattle.loop_versions.specs.declared.pieces.Piece.{Piece}
-use Rattle.loop_versions.specs.declared.pieces.Piece.TheVariants.{Copied, Branched, Jumped, Bridge, Guard}
+use Rattle.loop_versions.specs.declared.pieces.Piece.TheVariants.{Copied, Branched, Jumped, Bridge, Guard, Entered, Returned}
 use Rattle.loop_versions.specs.declared.pieces.Site.{Site}
 
 -- ---- what a piece stands for, and where it stands
@@ -24,6 +26,8 @@ origin_of (Branched at to) = at
 origin_of (Jumped at to) = at
 origin_of (Bridge at to) = at
 origin_of (Guard at larger smaller limit to) = at
+origin_of (Entered at to end) = at
+origin_of (Returned at to) = at
 
 -- its number of instructions
 abbrev pub piece_len : Piece → ℕ
@@ -32,6 +36,8 @@ piece_len (Branched at to) = 1
 piece_len (Jumped at to) = 1
 piece_len (Bridge at to) = 1
 piece_len (Guard at larger smaller limit to) = 9
+piece_len (Entered at to end) = 3
+piece_len (Returned at to) = 1
 
 -- the place behind a piece
 abbrev pub behind : (place : ℕ) → Piece → ℕ
@@ -64,6 +70,10 @@ guard_code place larger smaller limit to =
     ∷ instr.Reg Add larger larger smaller
     ∷ []
 
+-- the address behind the call, put into x1, and a jump
+abbrev pub enter_code : (place at to : ℕ) → List Instr
+enter_code place at to = instr.Lui 1 (hi (plus at 4)) ∷ instr.Imm Addi 1 1 (lo (plus at 4)) ∷ jump (place + 8) to ∷ []
+
 -- the branch with the way from a place to another
 abbrev pub led : (place to : ℕ) → Option Instr → List Instr
 led place to (Some (instr.Branch op rs1 rs2 offset)) = instr.Branch op rs1 rs2 (distance place to) ∷ []
@@ -84,6 +94,8 @@ module _ (image : Image) where
   piece_code place (Jumped at to) = jump place to ∷ []
   piece_code place (Bridge at to) = jump place to ∷ []
   piece_code place (Guard at larger smaller limit to) = guard_code place larger smaller limit to
+  piece_code place (Entered at to end) = enter_code place at to
+  piece_code place (Returned at to) = jump place to ∷ []
 
   -- the instructions of pieces that stand one behind the other
   abbrev pub pieces_code : (place : ℕ) → List Piece → List Instr
@@ -92,18 +104,20 @@ module _ (image : Image) where
 
 -- ---- the steps that stand for none of the text
 
--- bridges and guards stand for no step of the text
-abbrev pub is_extra : Piece → Bool
-is_extra (Copied at) = false
-is_extra (Branched at to) = false
-is_extra (Jumped at to) = false
-is_extra (Bridge at to) = true
-is_extra (Guard at larger smaller limit to) = true
+-- how many of the first instructions of a piece: all of a bridge or a guard, and of a call that is entered those that fill x1
+abbrev pub extra_len : Piece → ℕ
+extra_len (Copied at) = 0
+extra_len (Branched at to) = 0
+extra_len (Jumped at to) = 0
+extra_len (Bridge at to) = 1
+extra_len (Guard at larger smaller limit to) = 9
+extra_len (Entered at to end) = 2
+extra_len (Returned at to) = 0
 
--- an instruction of a bridge or a guard stands at the address
+-- such an instruction stands at the address
 abbrev pub in_extra : (place : ℕ) → List Piece → ℕ → Bool
 in_extra place [] v = false
-in_extra place (p ∷ ps) v = is_extra p && nat_le place v && nat_lt v (behind place p) || in_extra (behind place p) ps v
+in_extra place (p ∷ ps) v = nat_le place v && nat_lt v (place + 4 * extra_len p) || in_extra (behind place p) ps v
 
 abbrev pub is_site : List Site → ℕ → Bool
 is_site sites v = list_any (λ s. s.at == v) sites

@@ -1,37 +1,52 @@
 //! Whether all pieces and sites fit.
 
-ghost use Rattle.std.specs.Prelude.{◌≡◌, ◌≤◌, ◌<◌, ◌+◌, ◌*◌, ◌^◌, ◌==◌, ◌&&◌, count_by, length, true, Ok, Some};
+ghost use Rattle.std.specs.Prelude.{◌≡◌, ◌≤◌, ◌<◌, ◌+◌, ◌*◌, ◌^◌, ◌==◌, ◌&&◌, count_by, length, true, Ok, Some, IfOk};
 ghost use Rattle.std.specs.List.{list_all};
 ghost use Rattle.scale_base.specs.Elf as elf;
 ghost use Rattle.scale_base.specs.Image.{image_of};
 ghost use Rattle.image_lower.specs.FarJumps as far;
 ghost use Rattle.loop_versions.specs.Fitting as fitting;
 
+use crate::calls::stays_in;
 use crate::fitting::{fits_jump, is_free, is_right, origin_of, piece_len, stands_for};
 use crate::pieces::{Piece, Site};
 use byteorder::{ByteOrder, LittleEndian};
 use elf_image::ImageView;
 use elf_view::program_header_count;
+use scale_base::NoMemory;
+use std::alloc::Global;
 
 /// Whether each of some pieces, which stand one behind the other from a place on, leads on to what stands for the next instructions.
 pub fn are_right(
+    alloc: Global,
     view: &ImageView<'_>,
     pieces: &[Piece],
     base: u32,
     place: u32,
     others: &[Piece],
-) -> bool
+) -> Result<bool, NoMemory>
     requires few { length pieces.now ≤ 4096 }
     requires image { image_of view.now.file ≡ Ok view.now }
     requires room { place + 36 * length others.now < 2 ^ 32 }
-    ensures { result ≡ fitting.are_right view.now pieces.now base place others.now }
+    ensures { IfOk result (λ fit. fit ≡ fitting.are_right view.now pieces.now base place others.now) }
 {
     match others {
-        [] => true,
+        [] => Ok(true),
         [first, rest @ ..] => {
-            view.is_text_word(origin_of(first))
-                && is_right(view, pieces, base, place, first)
-                && are_right(view, pieces, base, place + 4 * piece_len(first), rest)
+            if !view.is_text_word(origin_of(first)) {
+                return Ok(false);
+            }
+            if !is_right(alloc, view, pieces, base, place, first)? {
+                return Ok(false);
+            }
+            are_right(
+                alloc,
+                view,
+                pieces,
+                base,
+                place + 4 * piece_len(first),
+                rest,
+            )
         }
     }
 }
@@ -90,37 +105,47 @@ fn is_once(sites: &[Site], at: u32) -> bool
 
 /// Whether a word of the text may become a jump to what stands for it.
 pub fn is_site_right(
+    alloc: Global,
     view: &ImageView<'_>,
     pieces: &[Piece],
     sites: &[Site],
     base: u32,
     site: &Site,
-) -> bool
+) -> Result<bool, NoMemory>
     requires { length pieces.now ≤ 4096 }
-    ensures { result ≡ fitting.is_site_right view.now pieces.now sites.now base site.now }
+    ensures { IfOk result (λ fit. fit ≡ fitting.is_site_right view.now pieces.now sites.now base site.now) }
 {
-    view.is_text_word(site.at)
+    let leads = view.is_text_word(site.at)
         && !is_in_table(view, site.at)
         && is_once(sites, site.at)
-        && stands_for(pieces, base, u64::from(site.to), u64::from(site.at))
-        && fits_jump(site.at, site.to)
+        && stands_for(pieces, base, u64::from(site.to), u64::from(site.at));
+    if !leads {
+        return Ok(false);
+    }
+    if !stays_in(alloc, pieces, base, u64::from(site.at), u64::from(site.to))? {
+        return Ok(false);
+    }
+    Ok(fits_jump(site.at, site.to))
 }
 
 fn are_sites_right(
+    alloc: Global,
     view: &ImageView<'_>,
     pieces: &[Piece],
     sites: &[Site],
     base: u32,
     others: &[Site],
-) -> bool
+) -> Result<bool, NoMemory>
     requires { length pieces.now ≤ 4096 }
-    ensures { result ≡ list_all (fitting.is_site_right view.now pieces.now sites.now base) others.now }
+    ensures { IfOk result (λ fit. fit ≡ list_all (fitting.is_site_right view.now pieces.now sites.now base) others.now) }
 {
     match others {
-        [] => true,
+        [] => Ok(true),
         [first, rest @ ..] => {
-            is_site_right(view, pieces, sites, base, first)
-                && are_sites_right(view, pieces, sites, base, rest)
+            if !is_site_right(alloc, view, pieces, sites, base, first)? {
+                return Ok(false);
+            }
+            are_sites_right(alloc, view, pieces, sites, base, rest)
         }
     }
 }
@@ -153,15 +178,26 @@ fn are_there(view: &ImageView<'_>, pieces: &[Piece]) -> bool
 
 /// Whether pieces and sites fit an image, with the first piece at a base.
 #[tactic(auto, unfolding(crate::specs::Fitting::are_fit))]
-pub fn are_fit(view: &ImageView<'_>, pieces: &[Piece], sites: &[Site], base: u32) -> bool
+pub fn are_fit(
+    alloc: Global,
+    view: &ImageView<'_>,
+    pieces: &[Piece],
+    sites: &[Site],
+    base: u32,
+) -> Result<bool, NoMemory>
     requires few { length pieces.now ≤ 4096 }
     requires image { image_of view.now.file ≡ Ok view.now }
     requires room { base + 147456 < 2 ^ 32 }
-    ensures { result ≡ fitting.are_fit view.now pieces.now sites.now base }
+    ensures { IfOk result (λ fit. fit ≡ fitting.are_fit view.now pieces.now sites.now base) }
 {
-    are_there(view, pieces)
-        && are_right(view, pieces, base, base, pieces)
-        && are_sites_right(view, pieces, sites, base, sites)
-        && are_free(pieces, sites, base, base, pieces)
-        && are_sites_free(pieces, sites, base, sites)
+    if !are_there(view, pieces) {
+        return Ok(false);
+    }
+    if !are_right(alloc, view, pieces, base, base, pieces)? {
+        return Ok(false);
+    }
+    if !are_sites_right(alloc, view, pieces, sites, base, sites)? {
+        return Ok(false);
+    }
+    Ok(are_free(pieces, sites, base, base, pieces) && are_sites_free(pieces, sites, base, sites))
 }

@@ -1,6 +1,6 @@
 //! Which pieces and sites fit a text.
 
-ghost use Rattle.std.specs.Prelude.{◌≡◌, ◌≤◌, ◌<◌, ◌+◌, ◌*◌, ◌^◌, ◌&&◌, length, true, Ok};
+ghost use Rattle.std.specs.Prelude.{◌≡◌, ◌≤◌, ◌<◌, ◌+◌, ◌*◌, ◌^◌, ◌&&◌, length, true, Ok, IfOk};
 ghost use Rattle.scale_base.specs.Image.{image_of, is_word_address};
 ghost use Rattle.rv_encode.specs.Jumps as jumps;
 ghost use Rattle.stub_writer.specs.Stubs as stubs;
@@ -8,11 +8,13 @@ ghost use Rattle.image_lower.specs.Trees as trees;
 ghost use Rattle.loop_versions.specs.Pieces as code;
 ghost use Rattle.loop_versions.specs.Fitting as fitting;
 
+use crate::calls::{begins, begins_behind, calls_at, stays_in};
 use crate::pieces::{Piece, Site};
 use code_text::{instr_at, moved};
 use elf_image::ImageView;
 use rv_encode::jal_fits;
-use scale_base::Instr;
+use scale_base::{Instr, NoMemory};
+use std::alloc::Global;
 
 /// The address of the instruction of the text for which a piece stands.
 pub fn origin_of(piece: &Piece) -> u32
@@ -24,6 +26,8 @@ pub fn origin_of(piece: &Piece) -> u32
         Piece::Jumped { at, .. } => at,
         Piece::Bridge { at, .. } => at,
         Piece::Guard { at, .. } => at,
+        Piece::Entered { at, .. } => at,
+        Piece::Returned { at, .. } => at,
     }
 }
 
@@ -34,6 +38,7 @@ pub fn piece_len(piece: &Piece) -> u32
 {
     match piece {
         Piece::Guard { .. } => 9,
+        Piece::Entered { .. } => 3,
         _ => 1,
     }
 }
@@ -137,14 +142,134 @@ pub fn is_jump_right(view: &ImageView<'_>, pieces: &[Piece], base: u32, at: u32,
 }
 
 /// Whether the instruction at an address may be copied to a place.
-pub fn is_copy_right(view: &ImageView<'_>, pieces: &[Piece], base: u32, place: u64, at: u32) -> bool
+pub fn is_copy_right(
+    alloc: Global,
+    view: &ImageView<'_>,
+    pieces: &[Piece],
+    base: u32,
+    place: u64,
+    at: u32,
+) -> Result<bool, NoMemory>
     requires few { length pieces.now ≤ 4096 }
     requires place { place < 2 ^ 36 }
     requires image { image_of view.now.file ≡ Ok view.now }
     requires word { is_word_address view.now at ≡ true }
-    ensures { result ≡ (fitting.is_plain (code.read view.now at) && fitting.stands_for pieces.now base (place + 4) (at + 4)) }
+    ensures { IfOk result (λ fit. fit ≡ fitting.is_copy_right view.now pieces.now base place at (code.read view.now at)) }
 {
-    is_plain(instr_at(view, at)) && stands_for(pieces, base, place + 4, u64::from(at) + 4)
+    let leads = is_plain(instr_at(view, at))
+        && stands_for(pieces, base, place + 4, u64::from(at) + 4);
+    if !leads {
+        return Ok(false);
+    }
+    stays_in(alloc, pieces, base, place, place + 4)
+}
+
+/// Whether the branch at an address leads from a place to what its two ways stand for.
+pub fn is_branch_right(
+    view: &ImageView<'_>,
+    pieces: &[Piece],
+    base: u32,
+    place: u32,
+    at: u32,
+    to: u32,
+) -> bool
+    requires few { length pieces.now ≤ 4096 }
+    requires image { image_of view.now.file ≡ Ok view.now }
+    requires word { is_word_address view.now at ≡ true }
+    ensures { result ≡ fitting.is_branch_right view.now pieces.now base place at to (code.read view.now at) }
+{
+    match instr_at(view, at) {
+        Some(Instr::Branch { offset, .. }) => {
+            leads_to(view, pieces, base, to, moved(at, offset))
+                && stands_for(pieces, base, u64::from(place) + 4, u64::from(at) + 4)
+                && is_branch_offset(distance(place, to))
+        }
+        _ => false,
+    }
+}
+
+/// Whether the `jal x1` at an address leads to what `to` stands for, with this call alone opened.
+pub fn is_call_right(
+    alloc: Global,
+    view: &ImageView<'_>,
+    pieces: &[Piece],
+    base: u32,
+    place: u32,
+    at: u32,
+    to: u32,
+) -> Result<bool, NoMemory>
+    requires few { length pieces.now ≤ 4096 }
+    requires image { image_of view.now.file ≡ Ok view.now }
+    requires word { is_word_address view.now at ≡ true }
+    ensures { IfOk result (λ fit. fit ≡ fitting.is_call_right view.now pieces.now base place at to (code.read view.now at)) }
+{
+    match instr_at(view, at) {
+        Some(Instr::Jal { rd, offset }) => {
+            if !(rd == 1 && leads_to(view, pieces, base, to, moved(at, offset))) {
+                return Ok(false);
+            }
+            let there = calls_at(alloc, pieces, base, u64::from(to))?;
+            let here = calls_at(alloc, pieces, base, u64::from(place))?;
+            Ok(begins_behind(&there, at.wrapping_add(4), &here))
+        }
+        _ => Ok(false),
+    }
+}
+
+/// Whether a way leads behind the innermost of some calls, where the others alone are open.
+pub fn is_back(
+    alloc: Global,
+    view: &ImageView<'_>,
+    pieces: &[Piece],
+    base: u32,
+    to: u32,
+    calls: &[u32],
+) -> Result<bool, NoMemory>
+    requires { length pieces.now ≤ 4096 }
+    ensures { IfOk result (λ fit. fit ≡ fitting.is_back view.now pieces.now base to calls.now) }
+{
+    match calls {
+        [] => Ok(false),
+        [back, others @ ..] => {
+            if !leads_to(view, pieces, base, to, *back) {
+                return Ok(false);
+            }
+            let there = calls_at(alloc, pieces, base, u64::from(to))?;
+            Ok(begins(&there, others))
+        }
+    }
+}
+
+/// Whether an instruction is a return.
+fn is_return(instr: Option<Instr>) -> bool
+    ensures { result ≡ fitting.is_return instr }
+{
+    match instr {
+        Some(Instr::Jalr { rd, rs1, offset }) => rd == 0 && rs1 == 1 && offset == 0,
+        _ => false,
+    }
+}
+
+/// Whether the return at an address leads behind the innermost of the inlined calls that are open at a place.
+pub fn is_return_right(
+    alloc: Global,
+    view: &ImageView<'_>,
+    pieces: &[Piece],
+    base: u32,
+    place: u32,
+    at: u32,
+    to: u32,
+) -> Result<bool, NoMemory>
+    requires few { length pieces.now ≤ 4096 }
+    requires image { image_of view.now.file ≡ Ok view.now }
+    requires word { is_word_address view.now at ≡ true }
+    ensures { IfOk result (λ fit. fit ≡ fitting.is_return_right view.now pieces.now base place to (code.read view.now at)) }
+{
+    if !is_return(instr_at(view, at)) {
+        return Ok(false);
+    }
+    let here = calls_at(alloc, pieces, base, u64::from(place))?;
+    is_back(alloc, view, pieces, base, to, &here)
 }
 
 /// How far a jump goes.
@@ -179,36 +304,65 @@ pub fn is_branch_offset(offset: i32) -> bool
     offset % 2 == 0 && offset >= -4096 && offset < 4096
 }
 
+/// Whether the ways of a guard at a place lead to what stands for its instruction.
+fn is_guard_right(
+    pieces: &[Piece],
+    base: u32,
+    place: u32,
+    at: u32,
+    larger: u8,
+    smaller: u8,
+    limit: u16,
+    to: u32,
+) -> bool
+    requires few { length pieces.now ≤ 4096 }
+    requires room { place + 36 < 2 ^ 32 }
+    ensures { result ≡ fitting.is_guard_right pieces.now base place at larger smaller limit to }
+{
+    is_guard(larger, smaller, limit)
+        && stands_for(pieces, base, u64::from(place) + 36, u64::from(at))
+        && stands_for(pieces, base, u64::from(to), u64::from(at))
+        && fits_jump(place + 24, to)
+}
+
 /// Whether a piece at a place leads on to what stands for the next instructions.
 pub fn is_right(
+    alloc: Global,
     view: &ImageView<'_>,
     pieces: &[Piece],
     base: u32,
     place: u32,
     piece: &Piece,
-) -> bool
+) -> Result<bool, NoMemory>
     requires few { length pieces.now ≤ 4096 }
     requires image { image_of view.now.file ≡ Ok view.now }
     requires word { is_word_address view.now (code.origin_of piece.now) ≡ true }
     requires room { place + 36 < 2 ^ 32 }
-    ensures { result ≡ fitting.is_right view.now pieces.now base place piece.now }
+    ensures { IfOk result (λ fit. fit ≡ fitting.is_right view.now pieces.now base place piece.now) }
 {
-    let next = u64::from(place) + 4;
+    let from = u64::from(place);
     match *piece {
-        Piece::Copied { at } => is_copy_right(view, pieces, base, u64::from(place), at),
-        Piece::Branched { at, to } => match instr_at(view, at) {
-            Some(Instr::Branch { offset, .. }) => {
-                leads_to(view, pieces, base, to, moved(at, offset))
-                    && stands_for(pieces, base, next, u64::from(at) + 4)
-                    && is_branch_offset(distance(place, to))
+        Piece::Copied { at } => is_copy_right(alloc, view, pieces, base, from, at),
+        Piece::Branched { at, to } => {
+            if !is_branch_right(view, pieces, base, place, at, to) {
+                return Ok(false);
             }
-            _ => false,
-        },
+            if !stays_in(alloc, pieces, base, from, from + 4)? {
+                return Ok(false);
+            }
+            stays_in(alloc, pieces, base, from, u64::from(to))
+        }
         Piece::Jumped { at, to } => {
-            is_jump_right(view, pieces, base, at, to) && fits_jump(place, to)
+            if !(is_jump_right(view, pieces, base, at, to) && fits_jump(place, to)) {
+                return Ok(false);
+            }
+            stays_in(alloc, pieces, base, from, u64::from(to))
         }
         Piece::Bridge { at, to } => {
-            stands_for(pieces, base, u64::from(to), u64::from(at)) && fits_jump(place, to)
+            if !(stands_for(pieces, base, u64::from(to), u64::from(at)) && fits_jump(place, to)) {
+                return Ok(false);
+            }
+            stays_in(alloc, pieces, base, from, u64::from(to))
         }
         Piece::Guard {
             at,
@@ -217,10 +371,25 @@ pub fn is_right(
             limit,
             to,
         } => {
-            is_guard(larger, smaller, limit)
-                && stands_for(pieces, base, u64::from(place) + 36, u64::from(at))
-                && stands_for(pieces, base, u64::from(to), u64::from(at))
-                && fits_jump(place + 24, to)
+            if !is_guard_right(pieces, base, place, at, larger, smaller, limit, to) {
+                return Ok(false);
+            }
+            if !stays_in(alloc, pieces, base, from, from + 36)? {
+                return Ok(false);
+            }
+            stays_in(alloc, pieces, base, from, u64::from(to))
+        }
+        Piece::Entered { at, to, .. } => {
+            if !is_call_right(alloc, view, pieces, base, place, at, to)? {
+                return Ok(false);
+            }
+            Ok(fits_jump(place + 8, to))
+        }
+        Piece::Returned { at, to } => {
+            if !is_return_right(alloc, view, pieces, base, place, at, to)? {
+                return Ok(false);
+            }
+            Ok(fits_jump(place, to))
         }
     }
 }

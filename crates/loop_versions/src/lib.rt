@@ -3,16 +3,19 @@
 //! Tests: none yet.
 #![tactic(auto)]
 
+mod calls;
 mod checking;
 mod fitting;
 mod making;
 mod pieces;
 mod runs;
 
+pub use calls::{begins, begins_behind, calls_at, stays_in};
 pub use checking::are_fit;
 pub use fitting::{
-    distance, fits_jump, is_branch_offset, is_copy_right, is_free, is_guard, is_jump_right,
-    is_right, jump, leads_to, origin, origin_of, piece_at, piece_len, site_at, stands_for,
+    distance, fits_jump, is_back, is_branch_offset, is_branch_right, is_call_right, is_copy_right,
+    is_free, is_guard, is_jump_right, is_return_right, is_right, jump, leads_to, origin, origin_of,
+    piece_at, piece_len, site_at, stands_for,
 };
 pub use making::{piece_code, pieces_code, site_patches};
 pub use pieces::{Piece, Site};

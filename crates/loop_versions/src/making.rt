@@ -7,6 +7,7 @@ ghost use Rattle.scale_base.specs.declared.instruction.BranchOp.TheVariants.{Blt
 ghost use Rattle.scale_base.specs.declared.instruction.ImmOp.TheVariants.{Addi};
 ghost use Rattle.loop_versions.specs.declared.pieces.Piece.TheVariants.{Guard};
 ghost use Rattle.scale_base.specs.Word.{word_of};
+ghost use Rattle.stub_writer.specs.Fragments as fragments;
 ghost use Rattle.stub_writer.specs.Stubs as stubs;
 ghost use Rattle.image_lower.specs.Trees as trees;
 ghost use Rattle.loop_versions.specs.Made as files;
@@ -132,6 +133,41 @@ fn guard_code(alloc: Global, place: u32, piece: &Piece) -> Result<Vec<Instr>, No
     Ok(made)
 }
 
+fn upper_part(c: u32) -> u32
+    ensures { result ≡ fragments.hi c }
+{
+    c.wrapping_add(0x800) / 4096 * 4096
+}
+
+fn lower_part(c: u32) -> i32
+    ensures { result ≡ fragments.lo c }
+{
+    let low = (c % 4096) as i32;
+    if low < 2048 { low } else { low - 4096 }
+}
+
+/// The address behind a call, put into x1, and a jump.
+fn enter_code(alloc: Global, place: u32, at: u32, to: u32) -> Result<Vec<Instr>, NoMemory>
+    requires { place + 36 < 2 ^ 32 }
+    ensures { IfOk result (λ made. made.items ≡ code.enter_code place at to) }
+{
+    let back = at.wrapping_add(4);
+    let made = [
+        Instr::Lui {
+            rd: 1,
+            imm: upper_part(back),
+        },
+        Instr::Imm {
+            op: ImmOp::Addi,
+            rd: 1,
+            rs1: 1,
+            imm: lower_part(back),
+        },
+        jump(place + 8, to),
+    ];
+    Ok(Vec::from_array(alloc, made)?)
+}
+
 /// The instructions of a piece at a place.
 pub fn piece_code(
     alloc: Global,
@@ -150,6 +186,8 @@ pub fn piece_code(
         Piece::Jumped { to, .. } => one(alloc, jump(place, to)),
         Piece::Bridge { to, .. } => one(alloc, jump(place, to)),
         Piece::Guard { .. } => guard_code(alloc, place, piece),
+        Piece::Entered { at, to, .. } => enter_code(alloc, place, at, to),
+        Piece::Returned { to, .. } => one(alloc, jump(place, to)),
     }
 }
 

@@ -31,6 +31,19 @@ pub enum Piece {
         limit: u16,
         to: u32,
     },
+    /// The `jal x1` at an address: it leads to `to`, with the address behind the original call in x1. Where a copy of what it calls is
+    /// inlined, that lies from `to` up to `end`; else `end` is `to`.
+    Entered {
+        at: u32,
+        to: u32,
+        end: u32,
+    },
+    /// The `jalr x0,0(x1)` at an address, in the copy of what an `Entered` calls: it leads to `to`, which stands for the address behind
+    /// that call.
+    Returned {
+        at: u32,
+        to: u32,
+    },
 }
 
 /// An instruction of the text in whose place a `jal x0` leads to a piece that stands for it.

@@ -10,6 +10,7 @@ use Rattle.cycle_laws.specs.Charged.{Charged}
 use Rattle.cost_theory.specs.Worst.{Numbers}
 use Rattle.flow_graph.specs.FlowGraph.{FlowGraph, graph}
 use Rattle.level_tables.specs.Tables as tables
+use Rattle.level_tables.specs.declared.edge_numbers.EdgeNumbers.{EdgeNumbers}
 use Rattle.loop_forest.specs.Tree.{LoopView, loops, IsLoopTree}
 use Rattle.scale_base.specs.declared.fragments.Mark.{Mark}
 use Rattle.scale_base.specs.declared.fragments.Mark.TheVariants as marks
@@ -140,7 +141,7 @@ module _ (power : PowerModel) (image : Image) (v : FlowGraph) (t : LoopView) (wa
       let small = is.turns_small k lt in
       subst (λ x. x * iteration ≤ 2 ^ 48) one (subst (λ x. (loops v t).bound k * x ≤ 2 ^ 48) two small)
 
-  pub exit_fragment : (e counter k bound iteration shift : ℕ) (rows : List ℕ) (told : tables.EdgeNumbers) → k < length t.headers → loop_of (counted_loops t) counter ≡ k → slice_get t.bounds k ≡ Some bound → slice_get m.worst.iteration k ≡ Some iteration
+  pub exit_fragment : (e counter k bound iteration shift : ℕ) (rows : List ℕ) (told : EdgeNumbers) → k < length t.headers → loop_of (counted_loops t) counter ≡ k → slice_get t.bounds k ≡ Some bound → slice_get m.worst.iteration k ≡ Some iteration
       → shift ≡ tables.shift_of bound → rows ≡ tables.all_rows_by power (test_of power m) bound iteration told → told ≡ told_at power image v t (marked_where v t wanted) stored least e
       → fragments.Exit counter shift rows ≡ fragment_by power (test_of power m) (loops v t) (counted_loops t) stored (told_at power image v t (marked_where v t wanted) stored least e) (marks.Exit counter)
   exit_fragment e counter k bound iteration shift rows told lt here b i s r tl =
@@ -151,7 +152,7 @@ module _ (power : PowerModel) (image : Image) (v : FlowGraph) (t : LoopView) (wa
       ∙ ap (tables.all_rows_by power (test_of power m) ((loops v t).bound (loop_of (counted_loops t) counter)) (stored.iteration (loop_of (counted_loops t) counter))) tl)) in
       ap (λ x. fragments.Exit counter x rows) three ∙ ap (fragments.Exit counter (tables.shift_of ((loops v t).bound (loop_of (counted_loops t) counter)))) four
 
-  pub tally_fragment : (e counter k bound iteration shift from : ℕ) (told : tables.EdgeNumbers) → k < length t.headers → loop_of (counted_loops t) counter ≡ k → slice_get t.bounds k ≡ Some bound → slice_get m.worst.iteration k ≡ Some iteration
+  pub tally_fragment : (e counter k bound iteration shift from : ℕ) (told : EdgeNumbers) → k < length t.headers → loop_of (counted_loops t) counter ≡ k → slice_get t.bounds k ≡ Some bound → slice_get m.worst.iteration k ≡ Some iteration
       → shift ≡ tables.tally_shift bound → from ≡ tables.tally_from power (test_of power m) bound iteration told → told ≡ told_at power image v t (marked_where v t wanted) stored least e
       → fragments.Tally counter shift from ≡ fragment_by power (test_of power m) (loops v t) (counted_loops t) stored (told_at power image v t (marked_where v t wanted) stored least e) (marks.Tally counter)
   tally_fragment e counter k bound iteration shift from told lt here b i s f tl =
@@ -162,6 +163,6 @@ module _ (power : PowerModel) (image : Image) (v : FlowGraph) (t : LoopView) (wa
       ∙ ap (tables.tally_from power (test_of power m) ((loops v t).bound (loop_of (counted_loops t) counter)) (stored.iteration (loop_of (counted_loops t) counter))) tl)) in
       ap (λ x. fragments.Tally counter x from) three ∙ ap (fragments.Tally counter (tables.tally_shift ((loops v t).bound (loop_of (counted_loops t) counter)))) four
 
-  pub lowest_fragment : (e : ℕ) (down : Bool) (told : tables.EdgeNumbers) → down ≡ tables.goes_lowest power (test_of power m) told → told ≡ told_at power image v t (marked_where v t wanted) stored least e
+  pub lowest_fragment : (e : ℕ) (down : Bool) (told : EdgeNumbers) → down ≡ tables.goes_lowest power (test_of power m) told → told ≡ told_at power image v t (marked_where v t wanted) stored least e
       → fragments.Lowest down ≡ fragment_by power (test_of power m) (loops v t) (counted_loops t) stored (told_at power image v t (marked_where v t wanted) stored least e) marks.Lowest
   lowest_fragment e down told d tl = ap fragments.Lowest (d ∙ ap (tables.goes_lowest power (test_of power m)) tl)

@@ -38,6 +38,7 @@ use Rattle.rewritten_runs.specs.Stubs.{IsWeighed, IsWeighedWith, AreSitesOf, tol
 use Rattle.rewritten_runs.proofs.Laws.{IsMarkOf, branch_fits, counted_is, edge_is, graph_program, in_get, place_of_site, program_is, set_distinct, shadow_of, shift_fits, tally_fits}
 use Rattle.std.specs.List.{range_with_len}
 use Rattle.level_tables.specs.Tables as tables
+use Rattle.level_tables.specs.declared.edge_numbers.EdgeNumbers.{EdgeNumbers}
 use Rattle.level_tables.proofs.Laws.{nibbles-fit, entries-low, entry-least, word_by-at}
 use Rattle.marked_images.specs.Wanted.{ChoosesSites, Wanted, marked_where}
 use Rattle.marked_images.proofs.Ordered.{marks_ordered}
@@ -46,18 +47,18 @@ use Rattle.marked_images.proofs.WantedKinds as Kinds
 
 -- ---- words and rows are tables of levels
 
-word_by_table : (power : PowerModel) (test : tables.EdgeNumbers → ℕ → ℕ → Bool) (site : tables.EdgeNumbers) → length power.levels ≤ 8 → IsTable (length power.levels) (tables.word_by power test site)
+word_by_table : (power : PowerModel) (test : EdgeNumbers → ℕ → ℕ → Bool) (site : EdgeNumbers) → length power.levels ≤ 8 → IsTable (length power.levels) (tables.word_by power test site)
 word_by_table power test site few = (
   nibbles-fit (tables.entry_by test site) 0 (length power.levels) few (λ k h. entries-low test site k (length power.levels) few (omega arith)),
   λ i h. let e = word_by-at power test site i few h in let up = (entry-least test site i).up_to in omega (arith, e, up, h),
 )
 
-rows_by_tables : (power : PowerModel) (test : tables.EdgeNumbers → ℕ → ℕ → Bool) (bound iteration : ℕ) (site : tables.EdgeNumbers) → length power.levels ≤ 8 → All (IsTable (length power.levels)) (tables.all_rows_by power test bound iteration site)
+rows_by_tables : (power : PowerModel) (test : EdgeNumbers → ℕ → ℕ → Bool) (bound iteration : ℕ) (site : EdgeNumbers) → length power.levels ≤ 8 → All (IsTable (length power.levels)) (tables.all_rows_by power test bound iteration site)
 rows_by_tables power test bound iteration site few =
     All-map (IsTable (length power.levels)) (tables.row_by power test bound iteration site) (range_with_len 0 (bound / 2 ^ tables.shift_of bound + 1)) (λ k d lt. word_by_table power test _ few)
 
 module _ (power : PowerModel) (ok : IsPowerModel power) (image : Image) (notes : List LoopNote) (v : FlowGraph) (tree : LoopView) (wanted : Wanted) (stored : Numbers) (by_marks : IsWeighedWith power image notes v tree (marked_where v tree wanted) stored) (kinds_are : ChoosesSites v wanted.switch)
-    (test : tables.EdgeNumbers → ℕ → ℕ → Bool) (least : Charged) (sites : List Site) (are : AreSitesOf image v.code (fragments_with power test image v tree (marked_where v tree wanted) stored least) sites) where
+    (test : EdgeNumbers → ℕ → ℕ → Bool) (least : Charged) (sites : List Site) (are : AreSitesOf image v.code (fragments_with power test image v tree (marked_where v tree wanted) stored least) sites) where
   abbrev plain : Numbers
   plain = Kinds.plain power image notes v tree wanted stored by_marks kinds_are
 

@@ -38,7 +38,8 @@ use Rattle.scale_sites.specs.Marks.{AreLoopsOnce}
 use Rattle.scale_sites.specs.Sites.{marks_where}
 use Rattle.scale_sites.proofs.Laws.{formed_few}
 use Rattle.rewritten_runs.specs.Stubs.{IsWeighed, IsWeighedWith, marks_by_slack, plain_weights, stored_weights, told_at, fragment_by, fragments_with, loop_of}
-use Rattle.level_tables.specs.Tables.{EdgeNumbers, shift_of, row_by, all_rows_by}
+use Rattle.level_tables.specs.Tables.{shift_of, row_by, all_rows_by}
+use Rattle.level_tables.specs.declared.edge_numbers.EdgeNumbers.{EdgeNumbers}
 use Rattle.std.proofs.lemmas.List.FromFn.{length-map-range_with_len}
 use Rattle.marked_images.specs.Wanted.{Wanted, marked_where, ChoosesSites, IsSitesKind}
 use Rattle.marked_images.proofs.FormedMarks.{forms_are}

@@ -1,5 +1,6 @@
 -- Scaffold: the marks of a program's edges, its numbers under the stored weights and its budgets, as the code keeps them. What is wanted of the marks is a parameter.
 use Rattle.std.specs.Prelude.{◌≡◌, ◌≢◌, ℕ, ◌*◌, ◌^◌, ◌<◌, ◌≤◌, Bool, List, [], length, All, slice_get, slice_index, Some}
+use Rattle.scale_base.specs.declared.limits.TheConstants.{CYCLE_LIMIT}
 use Rattle.scale_base.specs.declared.fragments.Fragment.{Fragment}
 use Rattle.scale_base.specs.Image.{Image}
 use Rattle.power_model.specs.Numbers.{PowerModel}
@@ -7,7 +8,7 @@ use Rattle.cycle_laws.specs.Charged.{Charged, to_end_after}
 use Rattle.cost_theory.specs.Worst.{Numbers}
 use Rattle.flow_graph.specs.FlowGraph.{FlowGraph, graph, IsGraphOf}
 use Rattle.code_text.specs.Text.{text_of}
-use Rattle.level_tables.specs.Tables as tables
+use Rattle.level_tables.specs.declared.edge_numbers.EdgeNumbers.{EdgeNumbers}
 use Rattle.loop_forest.specs.Tree.{LoopView, loops, IsLoopTree}
 use Rattle.scale_base.specs.declared.fragments.Mark.{Mark}
 use Rattle.scale_sites.specs.Counters.{counted_loops}
@@ -17,7 +18,6 @@ use Rattle.rewritten_runs.specs.Stubs.{stored_weights, told_at, fragment_by, fra
 use Rattle.stub_writer.specs.declared.site.StubEdge.{StubEdge}
 use Rattle.stub_writer.specs.Sites.{kind_number, fragments_by}
 use Rattle.marked_images.specs.declared.stubs.Marking.{Marking}
-use Rattle.marked_images.specs.declared.stubs.Told.{Told}
 use Rattle.level_tables.specs.Budgets.{meets_in_budget, budget_at}
 use Rattle.scale_base.specs.declared.edges.Edge.{Edge}
 use Rattle.marked_images.specs.Wanted.{Wanted, ChoosesSites, marked_where}
@@ -40,12 +40,12 @@ pub record IsMarking (power : PowerModel) (image : Image) (v : FlowGraph) (t : L
   pub after : (e : ℕ) → e < length v.code.edges → slice_get m.least.after e ≡ Some (to_end_after (graph v) (loops v t) least e)
   pub slack_small : (e : ℕ) → e < length v.code.edges → slack_at (graph v) (loops v t)
       (stored_weights power image v (marked_where v t wanted)) stored e ≤ 2 ^ 50
-  pub rest_small : (e : ℕ) → e < length v.code.edges → rest_at (graph v) (loops v t) stored e ≤ 2 ^ 48
-  pub turns_small : (k : ℕ) → k < length t.headers → (loops v t).bound k * stored.iteration k ≤ 2 ^ 48
+  pub rest_small : (e : ℕ) → e < length v.code.edges → rest_at (graph v) (loops v t) stored e ≤ CYCLE_LIMIT
+  pub turns_small : (k : ℕ) → k < length t.headers → (loops v t).bound k * stored.iteration k ≤ CYCLE_LIMIT
   pub after_small : (e z : ℕ) → e < length v.code.edges → to_end_after (graph v) (loops v t) least e ≡ Some z → z < 2 ^ 89
 
 -- the test that its levels meet
-abbrev pub test_of : PowerModel → Marking → tables.EdgeNumbers → ℕ → ℕ → Bool
+abbrev pub test_of : PowerModel → Marking → EdgeNumbers → ℕ → ℕ → Bool
 test_of power m = meets_in_budget power (budget_at m.budgets)
 
 abbrev pub HasMarking : PowerModel → FlowGraph → LoopView → Marking → Type 0
@@ -57,11 +57,8 @@ abbrev pub Whichever : PowerModel → FlowGraph → LoopView → Marking → (Im
 Whichever power v t m P = (image : Image) (wanted : Wanted) (stored : Numbers) (least : Charged) →
     IsMarking power image v t wanted stored least m → P image wanted stored least
 
-abbrev pub told_view : Told → tables.EdgeNumbers
-told_view x = record { slack = x.slack; left = x.left; least = x.least }
-
-abbrev pub IsToldAt : PowerModel → FlowGraph → LoopView → Marking → ℕ → Told → Type 0
-IsToldAt power v t m e x = Whichever power v t m (λ image wanted stored least. told_view x ≡ told_at power image v t
+abbrev pub IsToldAt : PowerModel → FlowGraph → LoopView → Marking → ℕ → EdgeNumbers → Type 0
+IsToldAt power v t m e x = Whichever power v t m (λ image wanted stored least. x ≡ told_at power image v t
     (marked_where v t wanted) stored least e)
 
 abbrev pub IsFragmentAt : PowerModel → FlowGraph → LoopView → Marking → ℕ → Mark → Fragment → Type 0

@@ -1,5 +1,6 @@
 -- Scaffold: what the parts of a stored image are found to be, on the way from the marks to the file. What is wanted of the marks, and by which rule levels have budgets, are parameters.
 use Rattle.std.specs.Prelude.{◌≡◌, ◌⊎◌, ℕ, ◌<◌, ◌≤◌, min, List, length, map, All, slice_get, slice_index, Option, Some, None, Result, Ok, Err}
+use Rattle.scale_base.specs.declared.limits.TheConstants.{BLOCK_LIMIT, CYCLE_LIMIT, WORD_LIMIT}
 use Rattle.scale_base.specs.declared.refusal.Refusal.{Refusal}
 use Rattle.scale_base.specs.declared.refusal.Refusal.TheVariants.{DeadlineMissed, TooLong}
 use Rattle.scale_base.specs.Image.{Image}
@@ -24,7 +25,7 @@ use Rattle.stub_writer.specs.Stubs.{block_size, block_bytes, patches_from, out_o
 use Rattle.loop_file.specs.declared.notes.LoopNote.{LoopNote}
 use Rattle.rewritten_runs.specs.Stubs.{IsWeighedWith, HasStubsWith, extra_weights, stored_weights, fragments_with, AreSitesOf}
 use Rattle.marked_images.specs.declared.stubs.Marking.{Marking}
-use Rattle.marked_images.specs.declared.scaling.Marked.{Marked}
+use Rattle.marked_images.specs.declared.stubs.Marked.{Marked}
 use Rattle.marked_images.specs.declared.scaling.Scaling.{Scaling}
 use Rattle.marked_images.specs.Markings.{IsMarking, test_of}
 use Rattle.marked_images.specs.Stored.{BudgetRule, IsStubbedProgram, rewritten_summary}
@@ -54,7 +55,7 @@ pub record IsMarkedAt (power : PowerModel) (image : Image) (v : FlowGraph) (t : 
   pub least_are : AreCharged (graph v) (loops v t) (stored_weights power image v (marked_where v t wanted)) least
   pub marks : HasMarks v t wanted m.sites
   pub marking : IsMarking power image v t wanted stored least m
-  pub short : stored.worst 0 ≤ 281474976710656
+  pub short : stored.worst 0 ≤ CYCLE_LIMIT
   pub worst : slice_get m.worst.worst 0 ≡ Some (stored.worst 0)
   pub slow : slowest_of power (stored.worst 0) ≡ Some start
   pub budgets : (i : ℕ) → budget_at m.budgets i ≡ rule start (stored.worst 0) i
@@ -62,8 +63,8 @@ pub record IsMarkedAt (power : PowerModel) (image : Image) (v : FlowGraph) (t : 
 -- too many cycles under the stored weights, or too late
 pub record IsUnfit (power : PowerModel) (image : Image) (v : FlowGraph) (t : LoopView) (wanted : Wanted) (stored : Numbers) (refusal : Refusal) : Type 0 where
   pub stored_are : AreNumbers (graph v) (loops v t) (stored_weights power image v (marked_where v t wanted)) stored
-  pub why : ((281474976710656 < stored.worst 0) × (refusal ≡ TooLong)) ⊎
-      ((stored.worst 0 ≤ 281474976710656) × (slowest_of power (stored.worst 0) ≡ None) ×
+  pub why : ((CYCLE_LIMIT < stored.worst 0) × (refusal ≡ TooLong)) ⊎
+      ((stored.worst 0 ≤ CYCLE_LIMIT) × (slowest_of power (stored.worst 0) ≡ None) ×
       (refusal ≡ DeadlineMissed (time_at power (fastest power) (stored.worst 0)) power.deadline))
 
 abbrev pub IsMarkingFound : PowerModel → Image → FlowGraph → LoopView → Wanted → BudgetRule → Result (Marking × ℕ) Refusal → Type 0
@@ -82,7 +83,7 @@ pub record IsMarked (power : PowerModel) (image : Image) (notes : List LoopNote)
 
 -- the marked instructions, in the form that their code is written from
 pub record AreStubsOf (power : PowerModel) (image : Image) (v : FlowGraph) (t : LoopView) (wanted : Wanted) (stored : Numbers) (least : Charged) (m : Marking) (stubs : List StubSite) : Type 0 where
-  pub few : length stubs ≤ 131072
+  pub few : length stubs ≤ WORD_LIMIT
   pub each : All IsSite stubs
   pub are : AreSitesOf image v.code (fragments_with power (test_of power m) image v t (marked_where v t wanted) stored least)
       (map site_of stubs)
@@ -100,9 +101,9 @@ AreStubsFound power image v t m stubs = (notes : List LoopNote) (wanted : Wanted
 
 -- the block at its base, or that it is out of reach there
 abbrev pub IsBlockGiven : Image → List StubSite → Result (StubBlock × ℕ) Refusal → Type 0
-IsBlockGiven image stubs (Ok x) = IsStubBase image (min (block_size (map site_of stubs)) 4194304) x.1 ×
+IsBlockGiven image stubs (Ok x) = IsStubBase image (min (block_size (map site_of stubs)) BLOCK_LIMIT) x.1 ×
     (emitted x.1 (map site_of stubs) ≡ Ok (block_view x.0))
-IsBlockGiven image stubs (Err refusal) = (base : ℕ) × IsStubBase image (min (block_size (map site_of stubs)) 4194304) base ×
+IsBlockGiven image stubs (Err refusal) = (base : ℕ) × IsStubBase image (min (block_size (map site_of stubs)) BLOCK_LIMIT) base ×
     (emitted base (map site_of stubs) ≡ Err refusal)
 
 -- ---- what stubs add
@@ -110,7 +111,7 @@ IsBlockGiven image stubs (Err refusal) = (base : ℕ) × IsStubBase image (min (
 -- the marks are those of a program whose worst cycles are in range under the stored weights
 abbrev pub IsInRange : PowerModel → FlowGraph → LoopView → SitesView → Type 0
 IsInRange power v t s = (image : Image) × (notes : List LoopNote) × (wanted : Wanted) × (stored : Numbers) ×
-    IsWeighedWith power image notes v t (marked_where v t wanted) stored × HasMarks v t wanted s × (stored.worst 0 ≤ 281474976710656)
+    IsWeighedWith power image notes v t (marked_where v t wanted) stored × HasMarks v t wanted s × (stored.worst 0 ≤ CYCLE_LIMIT)
 
 abbrev pub IsExtraFound : PowerModel → FlowGraph → LoopView → Wanted → Result ℕ Refusal → Type 0
 IsExtraFound power v t wanted (Ok x) = (extra : Numbers) × AreNumbers (graph v) (loops v t)
@@ -126,7 +127,7 @@ pub record IsScaled (power : PowerModel) (image : Image) (notes : List LoopNote)
   pub extra : Numbers
   pub least : Charged
   pub weighed : IsWeighedWith power image notes v t (marked_where v t wanted) stored
-  pub short : stored.worst 0 ≤ 281474976710656
+  pub short : stored.worst 0 ≤ CYCLE_LIMIT
   pub slow : slowest_of power (stored.worst 0) ≡ Some s.summary.start
   pub stubs : HasStubsWith power (meets_in_budget power (rule s.summary.start (stored.worst 0))) image v t (marked_where v t wanted) stored
       extra least (map site_of s.stubs.items) s.base

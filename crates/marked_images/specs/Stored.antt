@@ -1,5 +1,6 @@
 -- What is stored of a program with marks, and what is printed of it.
 use Rattle.std.specs.Prelude.{◌≡◌, ℕ, ◌≤◌, List, Option, Some, None, Result, Ok, Err}
+use Rattle.scale_base.specs.declared.limits.TheConstants.{CYCLE_LIMIT}
 use Rattle.scale_base.specs.declared.refusal.Refusal.{Refusal}
 use Rattle.scale_base.specs.declared.refusal.Refusal.TheVariants.{StubOutOfReach}
 use Rattle.scale_base.specs.declared.summary.Summary.{Summary}
@@ -58,7 +59,7 @@ pub record IsStubbedProgram (power : PowerModel) (image : Image) (notes : List L
   pub base : ℕ
   pub start : ℕ
   pub weighed : IsWeighedWith power image notes v t (marked_where v t wanted) stored
-  pub short : stored.worst 0 ≤ 281474976710656
+  pub short : stored.worst 0 ≤ CYCLE_LIMIT
   pub slow : slowest_of power (stored.worst 0) ≡ Some start
   pub stubs : HasStubsWith power (meets_in_budget power (rule start (stored.worst 0))) image v t (marked_where v t wanted) stored extra
       least sites base

@@ -9,6 +9,6 @@ mod scaling;
 mod stubs;
 
 pub use counting::{EdgeCounts, count_edges};
-pub use numbers::{marking_with, starting_level};
-pub use scaling::{Marked, Program, Scaling, block_of, scaling_of, stored_file};
-pub use stubs::{Marking, Told, fragment_of, told_at};
+pub use numbers::{EdgeMarks, marking_with, starting_level};
+pub use scaling::{Program, Scaling, block_of, scaling_of, stored_file};
+pub use stubs::{Marked, Marking, fragment_of, told_at};

@@ -37,30 +37,36 @@ pub fn starting_level(power: &Power, worst: u64) -> Result<u8, Refusal>
     }
 }
 
+/// The counted loops of a program, and the marks of its edges.
+#[derive(Drop)]
+pub struct EdgeMarks {
+    pub counters: CounterList,
+    pub sites: Sites,
+}
+
 /// The numbers of a program with these marks under its stored weights, if they are in time, with its starting level. Each level's budget is the
 /// deadline, so that a switch uses the slack of its own edge alone; another may be put in its place.
 pub fn marking_with(
     alloc: Global,
+    power: &Power,
     graph: &CodeGraph,
     tree: &LoopTree,
-    counters: CounterList,
-    sites: Sites,
-    power: &Power,
+    marks: EdgeMarks,
 ) -> Result<(Marking, u8), Stop>
     requires program { (image : Image) × (notes : List LoopNote) × IsGraphOf (text_of image) graph.now × IsTreeOf graph.now notes tree.now }
-    requires counters { AreCounters graph.now tree.now (Ok counters) }
-    requires marks { (wanted : Wanted) × scalings.HasMarks graph.now tree.now wanted sites }
-    ensures { (image : Image) (wanted : Wanted) → IsGraphOf (text_of image) graph.now → scalings.HasMarks graph.now tree.now wanted sites →
+    requires counters { AreCounters graph.now tree.now (Ok marks.counters) }
+    requires marks { (wanted : Wanted) × scalings.HasMarks graph.now tree.now wanted marks.sites }
+    ensures { (image : Image) (wanted : Wanted) → IsGraphOf (text_of image) graph.now → scalings.HasMarks graph.now tree.now wanted marks.sites →
         AnswersBy (λ x. x) result (scalings.IsMarkingFound power.now image graph.now tree.now wanted (by_deadline power.now)) }
 {
-    let weights = sites.stored_weights(alloc, graph, &power.costs)?;
+    let weights = marks.sites.stored_weights(alloc, graph, &power.costs)?;
     let worst = worst(alloc, graph, tree, &weights)?;
     let start = starting_level(power, worst.total())?;
     let least = least(alloc, graph, tree, &weights)?;
     Ok((
         Marking {
-            counters,
-            sites,
+            counters: marks.counters,
+            sites: marks.sites,
             worst,
             least,
             budgets: LevelBudgets::alike(power.deadline),

@@ -14,30 +14,18 @@ ghost use Rattle.marked_images.specs.Stored.{BudgetRule};
 ghost use Rattle.marked_images.specs.Wanted.{Wanted};
 
 use crate::counting::count_edges;
-use crate::stubs::{Marking, stub_sites};
+use crate::stubs::{Marked, stub_sites};
 use answer_parts::time_at;
 use elf_image::ImageView;
 use elf_patch::{stub_base, write_image};
 use flow_graph::CodeGraph;
 use loop_forest::LoopTree;
 use power_model::Power;
-use scale_base::{NoMemory, Stop, Summary};
+use scale_base::{BLOCK_LIMIT, IMAGE_LIMIT, NoMemory, Stop, Summary, WORD_LIMIT};
 use scale_sites::Sites;
 use std::alloc::Global;
 use stub_writer::{StubBlock, StubSite, block_len, emit};
 use worst_cycles::worst;
-
-/// The longest block for which a place is looked for, in bytes.
-const LONGEST_BLOCK: u32 = 4_194_304;
-
-/// The graph and the loops of a program, the marks of its edges with its numbers under the stored weights, and its starting level.
-#[derive(Drop)]
-pub struct Marked {
-    pub graph: CodeGraph,
-    pub tree: LoopTree,
-    pub marking: Marking,
-    pub start: u8,
-}
 
 /// What is stored of a program besides its file.
 #[derive(Drop)]
@@ -82,12 +70,12 @@ pub fn block_of(
     view: &ImageView<'_>,
     stubs: &[StubSite],
 ) -> Result<(StubBlock, u32), Stop>
-    requires few { length stubs.now ≤ 131072 }
+    requires few { length stubs.now ≤ WORD_LIMIT }
     requires each { All IsSite stubs.now }
     ensures { AnswersBy (λ x. x) result (scalings.IsBlockGiven view.now stubs.now) }
 {
     let len = block_len(stubs);
-    let base = stub_base(view, len.min(LONGEST_BLOCK));
+    let base = stub_base(view, len.min(BLOCK_LIMIT));
     Ok((emit(alloc, stubs, base)?, base))
 }
 
@@ -107,11 +95,10 @@ pub fn scaling_of(
         (scalings.IsScalingFound power.now view.now notes marked.now.graph marked.now.tree wanted rule) }
 {
     let graph = &marked.graph;
-    let tree = &marked.tree;
     let marking = &marked.marking;
     let start = marked.start;
-    let stub_cycles = stub_cycles(alloc, graph, tree, &marking.sites, power)?;
-    let stubs = stub_sites(alloc, view, power, graph, tree, marking)?;
+    let stub_cycles = stub_cycles(alloc, graph, &marked.tree, &marking.sites, power)?;
+    let stubs = stub_sites(alloc, view, power, marked)?;
     let (block, base) = block_of(alloc, view, &stubs)?;
     let edges = count_edges(graph, &marking.sites);
     let worst = marking.worst.total();
@@ -141,7 +128,7 @@ pub fn stored_file(
     scaling: &Scaling,
 ) -> Result<Vec<u8>, NoMemory>
     requires read { image_of view.now.file ≡ Ok view.now }
-    requires file { length view.now.file ≤ 4194304 }
+    requires file { length view.now.file ≤ IMAGE_LIMIT }
     requires no_key { view.now.keyed_segment ≡ None }
     requires scaled { (power : PowerModel) × (notes : List LoopNote) × (v : FlowGraph) × (t : LoopView) × (wanted : Wanted) ×
         (rule : BudgetRule) × IsPowerModel power × scalings.IsScaled power view.now notes v t wanted rule scaling.now }

@@ -14,8 +14,7 @@ use elf_image::ImageView;
 use flow_graph::CodeGraph;
 use least_cycles::LeastNumbers;
 use level_tables::{
-    LevelBudgets, exit_rows_within, lowest_within, shift, tally_from_within, tally_shift,
-    word_within,
+    EdgeNumbers, LevelBudgets, exit_rows_within, shift, tally_from_within, tally_shift,
 };
 use loop_forest::LoopTree;
 use power_model::Power;
@@ -36,164 +35,103 @@ pub struct Marking {
     pub budgets: LevelBudgets,
 }
 
-/// What an edge tells its switch: its slack, the cycles left at most behind the store at the speed port, and the least cycles from
-/// there to the end of the run.
-#[derive(Clone, Copy, Drop)]
-pub struct Told {
-    pub slack: u64,
-    pub left: u64,
-    pub least: Option<u128>,
+/// The graph and the loops of a program, the marks of its edges with its numbers under the stored weights, and its starting level.
+#[derive(Drop)]
+pub struct Marked {
+    pub graph: CodeGraph,
+    pub tree: LoopTree,
+    pub marking: Marking,
+    pub start: u8,
 }
 
-/// What edge `e`, which has a mark that may store a level, tells its switch.
-pub fn told_at(
-    power: &Power,
-    graph: &CodeGraph,
-    tree: &LoopTree,
-    marking: &Marking,
-    e: usize,
-) -> Told
-    requires marking { HasMarking power.now graph.now tree.now marking.now }
-    requires edge { e < length graph.now.code.edges }
-    requires switches { switches (marks_at_edge marking.now.sites e) ≡ true }
-    ensures told { IsToldAt power.now graph.now tree.now marking.now e result }
+/// What edge `e`, which has a mark that may store a level, tells its switch: its slack, and what is left behind the store at the speed port.
+pub fn told_at(power: &Power, marked: &Marked, e: usize) -> EdgeNumbers
+    requires marking { HasMarking power.now marked.now.graph marked.now.tree marked.now.marking }
+    requires edge { e < length marked.now.graph.code.edges }
+    requires switches { switches (marks_at_edge marked.now.marking.sites e) ≡ true }
+    ensures told { IsToldAt power.now marked.now.graph marked.now.tree marked.now.marking e result }
     ensures slack { result.slack ≤ 2 ^ 50 }
     ensures least { IfSome result.least (λ z. z < 2 ^ 90) }
 {
-    let tail = marking.sites.tail(e, &power.costs);
-    let slack = marking.worst.slack(e);
-    let rest = marking.worst.rest(e);
-    let least = plus(marking.least.to_end_after(e), tail);
-    Told {
-        slack,
-        left: rest + u64::from(tail),
-        least,
-    }
-}
-
-/// Some cycles more, if there are any.
-fn plus(least: Option<u128>, tail: u32) -> Option<u128>
-    requires small { IfSome least (λ z. z < 2 ^ 89) }
-    ensures sum { result ≡ option_map (λ z. z + tail) least }
-    ensures small { IfSome result (λ z. z < 2 ^ 90) }
-{
-    match least {
-        Some(cycles) => Some(cycles + u128::from(tail)),
-        None => None,
-    }
+    let marking = &marked.marking;
+    let edge = EdgeNumbers {
+        slack: marking.worst.slack(e),
+        left: marking.worst.rest(e),
+        least: marking.least.to_end_after(e),
+    };
+    edge.with_tail(marking.sites.tail(e, &power.costs))
 }
 
 /// The code of an Exit on edge `e`: a row for each shifted count of its loop.
-fn exit_of(
-    power: &Power,
-    graph: &CodeGraph,
-    tree: &LoopTree,
-    marking: &Marking,
-    e: usize,
-    counter: u16,
-) -> Fragment
-    requires marking { HasMarking power.now graph.now tree.now marking.now }
-    requires edge { e < length graph.now.code.edges }
-    requires mark { (i : ℕ) × (slice_get (marks_at_edge marking.now.sites e) i ≡ Some (marks.Exit counter)) }
-    ensures { IsFragmentAt power.now graph.now tree.now marking.now e (marks.Exit counter) result }
+fn exit_of(power: &Power, marked: &Marked, e: usize, counter: u16) -> Fragment
+    requires marking { HasMarking power.now marked.now.graph marked.now.tree marked.now.marking }
+    requires edge { e < length marked.now.graph.code.edges }
+    requires mark { (i : ℕ) × (slice_get (marks_at_edge marked.now.marking.sites e) i ≡ Some (marks.Exit counter)) }
+    ensures { IsFragmentAt power.now marked.now.graph marked.now.tree marked.now.marking e (marks.Exit counter) result }
 {
-    let told = told_at(power, graph, tree, marking, e);
+    let told = told_at(power, marked, e);
+    let marking = &marked.marking;
     let l = *marking.counters.get(usize::from(counter - 2));
-    let bound = tree.bound(l);
+    let bound = marked.tree.bound(l);
     let iteration = marking.worst.iteration(l);
     Fragment::Exit {
         counter,
         shift: shift(bound),
-        rows: exit_rows_within(
-            power,
-            &marking.budgets,
-            bound,
-            iteration,
-            told.slack,
-            told.left,
-            told.least,
-        ),
+        rows: exit_rows_within(power, &marking.budgets, bound, iteration, &told),
     }
 }
 
 /// The code of a Lowest on edge `e`: it stores where every level goes to the lowest.
-fn lowest_of(
-    power: &Power,
-    graph: &CodeGraph,
-    tree: &LoopTree,
-    marking: &Marking,
-    e: usize,
-) -> Fragment
-    requires marking { HasMarking power.now graph.now tree.now marking.now }
-    requires edge { e < length graph.now.code.edges }
-    requires mark { (i : ℕ) × (slice_get (marks_at_edge marking.now.sites e) i ≡ Some marks.Lowest) }
-    ensures { IsFragmentAt power.now graph.now tree.now marking.now e marks.Lowest result }
+fn lowest_of(power: &Power, marked: &Marked, e: usize) -> Fragment
+    requires marking { HasMarking power.now marked.now.graph marked.now.tree marked.now.marking }
+    requires edge { e < length marked.now.graph.code.edges }
+    requires mark { (i : ℕ) × (slice_get (marks_at_edge marked.now.marking.sites e) i ≡ Some marks.Lowest) }
+    ensures { IsFragmentAt power.now marked.now.graph marked.now.tree marked.now.marking e marks.Lowest result }
 {
-    let told = told_at(power, graph, tree, marking, e);
+    let told = told_at(power, marked, e);
     Fragment::Lowest {
-        down: lowest_within(power, &marking.budgets, told.slack, told.left, told.least),
+        down: told.lowest_within(power, &marked.marking.budgets),
     }
 }
 
 /// The code of a Tally on edge `e`: it stores from the least count on from which every level goes to the lowest.
-fn tally_of(
-    power: &Power,
-    graph: &CodeGraph,
-    tree: &LoopTree,
-    marking: &Marking,
-    e: usize,
-    counter: u16,
-) -> Fragment
-    requires marking { HasMarking power.now graph.now tree.now marking.now }
-    requires edge { e < length graph.now.code.edges }
-    requires mark { (i : ℕ) × (slice_get (marks_at_edge marking.now.sites e) i ≡ Some (marks.Tally counter)) }
-    ensures { IsFragmentAt power.now graph.now tree.now marking.now e (marks.Tally counter) result }
+fn tally_of(power: &Power, marked: &Marked, e: usize, counter: u16) -> Fragment
+    requires marking { HasMarking power.now marked.now.graph marked.now.tree marked.now.marking }
+    requires edge { e < length marked.now.graph.code.edges }
+    requires mark { (i : ℕ) × (slice_get (marks_at_edge marked.now.marking.sites e) i ≡ Some (marks.Tally counter)) }
+    ensures { IsFragmentAt power.now marked.now.graph marked.now.tree marked.now.marking e (marks.Tally counter) result }
 {
-    let told = told_at(power, graph, tree, marking, e);
+    let told = told_at(power, marked, e);
+    let marking = &marked.marking;
     let l = *marking.counters.get(usize::from(counter - 2));
-    let bound = tree.bound(l);
+    let bound = marked.tree.bound(l);
     let iteration = marking.worst.iteration(l);
     Fragment::Tally {
         counter,
         shift: tally_shift(bound),
-        from: tally_from_within(
-            power,
-            &marking.budgets,
-            bound,
-            iteration,
-            told.slack,
-            told.left,
-            told.least,
-        ),
+        from: tally_from_within(power, &marking.budgets, bound, iteration, &told),
     }
 }
 
 /// The code of a mark on edge `e`.
-pub fn fragment_of(
-    power: &Power,
-    graph: &CodeGraph,
-    tree: &LoopTree,
-    marking: &Marking,
-    e: usize,
-    mark: Mark,
-) -> Fragment
-    requires marking { HasMarking power.now graph.now tree.now marking.now }
-    requires edge { e < length graph.now.code.edges }
-    requires mark { (i : ℕ) × (slice_get (marks_at_edge marking.now.sites e) i ≡ Some mark) }
-    ensures { IsFragmentAt power.now graph.now tree.now marking.now e mark result }
+pub fn fragment_of(power: &Power, marked: &Marked, e: usize, mark: Mark) -> Fragment
+    requires marking { HasMarking power.now marked.now.graph marked.now.tree marked.now.marking }
+    requires edge { e < length marked.now.graph.code.edges }
+    requires mark { (i : ℕ) × (slice_get (marks_at_edge marked.now.marking.sites e) i ≡ Some mark) }
+    ensures { IsFragmentAt power.now marked.now.graph marked.now.tree marked.now.marking e mark result }
 {
     match mark {
         Mark::Switch => {
-            let told = told_at(power, graph, tree, marking, e);
+            let told = told_at(power, marked, e);
             Fragment::Switch {
-                word: word_within(power, &marking.budgets, told.slack, told.left, told.least),
+                word: told.word_within(power, &marked.marking.budgets),
             }
         }
-        Mark::Exit(counter) => exit_of(power, graph, tree, marking, e, counter),
+        Mark::Exit(counter) => exit_of(power, marked, e, counter),
         Mark::Reset(counter) => Fragment::Reset { counter },
         Mark::Count(counter) => Fragment::Count { counter },
-        Mark::Lowest => lowest_of(power, graph, tree, marking, e),
-        Mark::Tally(counter) => tally_of(power, graph, tree, marking, e, counter),
+        Mark::Lowest => lowest_of(power, marked, e),
+        Mark::Tally(counter) => tally_of(power, marked, e, counter),
     }
 }
 
@@ -201,18 +139,16 @@ pub fn fragment_of(
 fn fragments_at(
     alloc: Global,
     power: &Power,
-    graph: &CodeGraph,
-    tree: &LoopTree,
-    marking: &Marking,
+    marked: &Marked,
     e: usize,
 ) -> Result<FragmentList, NoMemory>
-    requires marking { HasMarking power.now graph.now tree.now marking.now }
-    requires edge { e < length graph.now.code.edges }
-    ensures { IfOk result (λ fs. AreFragmentsAt power.now graph.now tree.now marking.now e fs) }
+    requires marking { HasMarking power.now marked.now.graph marked.now.tree marked.now.marking }
+    requires edge { e < length marked.now.graph.code.edges }
+    ensures { IfOk result (λ fs. AreFragmentsAt power.now marked.now.graph marked.now.tree marked.now.marking e fs) }
 {
     let mut fragments = Vec::new(alloc);
-    for mark in marking.sites.marks(e) {
-        fragments.push(fragment_of(power, graph, tree, marking, e, *mark))?;
+    for mark in marked.marking.sites.marks(e) {
+        fragments.push(fragment_of(power, marked, e, *mark))?;
     }
     Ok(FragmentList::from_vec(fragments))
 }
@@ -221,21 +157,20 @@ fn fragments_at(
 fn stub_edges(
     alloc: Global,
     power: &Power,
-    graph: &CodeGraph,
-    tree: &LoopTree,
-    marking: &Marking,
+    marked: &Marked,
     k: usize,
 ) -> Result<Vec<StubEdge>, NoMemory>
-    requires marking { HasMarking power.now graph.now tree.now marking.now }
-    requires node { k < length graph.now.code.nodes }
-    ensures { IfOk result (λ es. AreEdgesAt power.now graph.now tree.now marking.now k es.items) }
+    requires marking { HasMarking power.now marked.now.graph marked.now.tree marked.now.marking }
+    requires node { k < length marked.now.graph.code.nodes }
+    ensures { IfOk result (λ es. AreEdgesAt power.now marked.now.graph marked.now.tree marked.now.marking k es.items) }
 {
+    let graph = &marked.graph;
     let (first, end) = graph.edges_of(k);
     let mut edges = Vec::new(alloc);
     for e in first..end {
-        if !marking.sites.marks(e).is_empty() {
+        if !marked.marking.sites.marks(e).is_empty() {
             let edge = graph.edge(e);
-            let fragments = fragments_at(alloc, power, graph, tree, marking, e)?;
+            let fragments = fragments_at(alloc, power, marked, e)?;
             edges.push(StubEdge { edge, fragments })?;
         }
     }
@@ -258,17 +193,16 @@ pub fn stub_sites(
     alloc: Global,
     view: &ImageView<'_>,
     power: &Power,
-    graph: &CodeGraph,
-    tree: &LoopTree,
-    marking: &Marking,
+    marked: &Marked,
 ) -> Result<Vec<StubSite>, NoMemory>
     requires image { image_of view.now.file ≡ Ok view.now }
-    requires program { IsMarkedProgram power.now view.now graph.now tree.now marking.now }
-    ensures { IfOk result (λ stubs. AreStubsFound power.now view.now graph.now tree.now marking.now stubs.items) }
+    requires program { IsMarkedProgram power.now view.now marked.now.graph marked.now.tree marked.now.marking }
+    ensures { IfOk result (λ stubs. AreStubsFound power.now view.now marked.now.graph marked.now.tree marked.now.marking stubs.items) }
 {
+    let graph = &marked.graph;
     let mut stubs = Vec::new(alloc);
     for k in 0..graph.node_count() {
-        let edges = stub_edges(alloc, power, graph, tree, marking, k)?;
+        let edges = stub_edges(alloc, power, marked, k)?;
         let at = graph.node(k);
         if !edges.is_empty() {
             if let Some(instr) = instr_at(view, at) {

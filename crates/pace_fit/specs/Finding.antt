@@ -1,6 +1,7 @@
 -- Scaffold: what the parts of a fitting find, on the way to what it gives.
 use Rattle.std.specs.Prelude.{◌≡◌, ℕ, ◌^◌, ◌≤◌, List, map, length, Option, Result, Ok, Err}
 use Rattle.std.specs.List.{All}
+use Rattle.scale_base.specs.declared.limits.TheConstants.{FILE_LIMIT, IMAGE_LIMIT}
 use Rattle.scale_base.specs.declared.refusal.Refusal.{Refusal}
 use Rattle.scale_base.specs.declared.summary.Summary.{Summary}
 use Rattle.power_model.specs.Numbers.{IsPowerModel}
@@ -20,9 +21,9 @@ use Rattle.pace_fit.specs.Fitting.{Gives, IsProposed}
 
 -- they have at most the bytes that the program loads, and the flags say which inputs count
 pub record AreLoaded (files : Files) : Type 0 where
-  pub image : length files.image.now ≤ 4194304
-  pub machine : length files.machine.now ≤ 1048576
-  pub loops : length files.loops.now ≤ 1048576
+  pub image : length files.image.now ≤ IMAGE_LIMIT
+  pub machine : length files.machine.now ≤ FILE_LIMIT
+  pub loops : length files.loops.now ≤ FILE_LIMIT
   pub few : length files.inputs.now ≤ 64
   pub flags : files.flags.now ≡ map (λ input. counts files.image.now files.machine.now files.loops.now input.items) files.inputs.now
 

@@ -12,7 +12,7 @@ use crate::preparing::Prepared;
 use gain_tuner::{Files, GivenFiles, count_of, held_trial, trial_from};
 use paced_images::Proposal;
 use run_progress::{Part, Progress};
-use scale_base::{NoMemory, Summary};
+use scale_base::{FILE_LIMIT, IMAGE_LIMIT, NoMemory, Summary};
 use scaler::rewrite;
 use std::alloc::Global;
 
@@ -129,11 +129,11 @@ pub fn choose<P: Progress>(
     proposals: &[Proposal],
     progress: &mut P,
 ) -> Result<(Vec<u8>, Fitted), NoMemory>
-    requires image { length given.now.image.now ≤ 4194304 }
-    requires machine { length given.now.machine.now ≤ 1048576 }
-    requires loops { length given.now.loops.now ≤ 1048576 }
+    requires image { length given.now.image.now ≤ IMAGE_LIMIT }
+    requires machine { length given.now.machine.now ≤ FILE_LIMIT }
+    requires loops { length given.now.loops.now ≤ FILE_LIMIT }
     requires few { length given.now.inputs.now ≤ 64 }
-    requires inputs { All (λ input. length input.items ≤ 1048576) given.now.inputs.now }
+    requires inputs { All (λ input. length input.items ≤ FILE_LIMIT) given.now.inputs.now }
     requires prepared { IsPrepared given.now.image.now given.now.machine.now given.now.loops.now
         (map (λ input. input.items) given.now.inputs.now) prepared.now }
     requires proposals { length proposals.now ≤ 64 }

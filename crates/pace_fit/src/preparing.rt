@@ -9,7 +9,7 @@ use gain_tuner::GivenFiles;
 use machine_file::read_machine;
 use power_model::Power;
 use run_progress::Progress;
-use scale_base::{Stop, Summary};
+use scale_base::{FILE_LIMIT, IMAGE_LIMIT, Stop, Summary};
 use scaler::hold;
 use std::alloc::Global;
 
@@ -33,9 +33,9 @@ pub fn prepare<P: Progress>(
     files: &GivenFiles<'_>,
     progress: &mut P,
 ) -> Result<Prepared, Stop>
-    requires image { length files.now.image.now ≤ 4194304 }
-    requires machine { length files.now.machine.now ≤ 1048576 }
-    requires loops { length files.now.loops.now ≤ 1048576 }
+    requires image { length files.now.image.now ≤ IMAGE_LIMIT }
+    requires machine { length files.now.machine.now ≤ FILE_LIMIT }
+    requires loops { length files.now.loops.now ≤ FILE_LIMIT }
     ensures { AnswersBy (λ p. p) result (IsPreparing files.now.image.now files.now.machine.now files.now.loops.now
         (map (λ input. input.items) files.now.inputs.now)) }
 {

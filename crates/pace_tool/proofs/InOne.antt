@@ -4,6 +4,8 @@ use Rattle.std.specs.Prelude.{if◌then◌else◌, Result, Ok, Err}
 use Rattle.std.specs.FinMap.{get}
 use Rattle.scale_base.specs.declared.refusal.Refusal.{Refusal}
 use Rattle.scale_base.specs.declared.summary.Lowered.{Lowered}
+use Rattle.scale_base.specs.Image.{Image, contents, image_of}
+use Rattle.scale_base.proofs.Laws.{contents-are}
 use Rattle.host_files.specs.HostState.{Files}
 use Rattle.host_runs.specs.Answer.{Answer}
 use Rattle.host_runs.specs.Delivered.{with_stores}
@@ -11,6 +13,7 @@ use Rattle.image_lower.specs.Lowered.{IsLowered}
 use Rattle.image_lower.proofs.Laws.{lowered_safe}
 use Rattle.loop_drafts.specs.declared.drafted.LoopDraft.{LoopDraft}
 use Rattle.loop_drafts.specs.Kept.{AreBytes}
+use Rattle.loop_drafts.proofs.Laws.{returns_go_back}
 use Rattle.pace_tool.specs.Fits.{IsFittedSafely, MakesFit}
 use Rattle.pace_tool.specs.Drafts.{Drafts}
 use Rattle.pace_tool.specs.InOne.{IsTried, MakesDrafted, MakesFitted, MakesInOne, MakesOfPlain, MakesOfTried, MakesPlain, behind}
@@ -66,6 +69,10 @@ in_one_small image machine inputs versions out answer is = plain_small machine o
 
 -- ---- the promise
 
+read_file : (file : List ℕ) (image : Image) → image_of file ≡ Ok image → image.file ≡ file
+unfolding contents
+read_file file image is = sym (ap (λ (i : Image). i.file) (contents-are file image is))
+
 -- the image that is fitted follows the one that goes on
 tried_kept : (machine : List ℕ) (inputs : List (List ℕ)) (versions : Bool) (plain tried text : List ℕ) → IsTried machine inputs versions plain tried text → IsTriedSafely versions plain tried
 tried_kept machine inputs false plain tried text is = is.0
@@ -82,8 +89,12 @@ tried_kept machine inputs true plain tried text (inr other) =
       is_read = version.is_read;
       is_versioned = version.is_versioned;
       file = version.file ∙ sym other.2;
-      exits = λ levels input n status bytes exited. versioned_runs_exit version.image version.versioned version.pieces version.sites version.base levels input n status version.is_versioned bytes exited;
-      follows = λ levels input n bytes outside. versioned_runs_follow version.image version.versioned version.pieces version.sites version.base levels input n version.is_versioned bytes outside;
+      exits = λ levels input n status bytes back exited. versioned_runs_exit version.image version.versioned version.pieces version.sites version.base levels input n status version.is_versioned bytes back exited;
+      follows = λ levels input n bytes outside back. versioned_runs_follow version.image version.versioned version.pieces version.sites version.base levels input n version.is_versioned bytes outside back;
+      goes_back = λ draft drafted proved levels input n bytes has.
+          let own = subst AreBytes (read_file plain version.image version.is_read) version.is_versioned.bytes in
+          let back = returns_go_back plain draft version.image levels input n own bytes drafted version.is_read proved in
+          (back.0, back.1);
     })
 
 module _ (image machine out : List ℕ) (inputs : List (List ℕ)) (versions : Bool) (files : Files) (answer : Answer) (bytes : AreBytes image) (short : length image ≤ 4194304) (done : answer.status ≢ 1) where

@@ -1,6 +1,7 @@
 -- The commands: what each loads, and the statuses that it may answer.
 use Rattle.std.specs.Prelude.{ℕ, List, [], ◌∷◌, map, Bool, true, false, ◌==◌, ◌||◌, nat_le}
 use Rattle.host_runs.specs.Loading.{Wants}
+use Rattle.scale_base.specs.declared.limits.TheConstants.{FILE_LIMIT, IMAGE_LIMIT, STORED_LIMIT}
 
 pub data Command : Type 0 where
   Fit : (image machine loops out : List ℕ) (inputs : List (List ℕ)) → Command
@@ -14,28 +15,28 @@ pub data Command : Type 0 where
 
 -- inputs that are loaded, each with its limit in bytes
 abbrev pub input_wants : List (List ℕ) → Wants
-input_wants inputs = map (λ input. (input, 1048576)) inputs
+input_wants inputs = map (λ input. (input, FILE_LIMIT)) inputs
 
 -- an image, and what else is loaded
 abbrev pub image_wants : List ℕ → Wants → Wants
-image_wants image others = (image, 4194304) ∷ others
+image_wants image others = (image, IMAGE_LIMIT) ∷ others
 
 -- an image and a machine, and what else is loaded
 abbrev pub machine_wants : (image machine : List ℕ) → Wants → Wants
-machine_wants image machine others = image_wants image ((machine, 1048576) ∷ others)
+machine_wants image machine others = image_wants image ((machine, FILE_LIMIT) ∷ others)
 
 -- the files of a program, and what else is loaded
 abbrev pub program_wants : (image machine loops : List ℕ) → Wants → Wants
-program_wants image machine loops others = machine_wants image machine ((loops, 1048576) ∷ others)
+program_wants image machine loops others = machine_wants image machine ((loops, FILE_LIMIT) ∷ others)
 
 -- images that are run, which may be scaled ones, and their inputs, by turns
 abbrev pub run_wants : List (List ℕ) → Wants
-run_wants (image ∷ input ∷ others) = (image, 8388608) ∷ (input, 1048576) ∷ run_wants others
+run_wants (image ∷ input ∷ others) = (image, STORED_LIMIT) ∷ (input, FILE_LIMIT) ∷ run_wants others
 run_wants names = []
 
 -- a machine, and runs on it
 abbrev pub drawn_wants : List ℕ → List (List ℕ) → Wants
-drawn_wants machine names = (machine, 1048576) ∷ run_wants names
+drawn_wants machine names = (machine, FILE_LIMIT) ∷ run_wants names
 
 -- the files that it loads, in order, each with its limit in bytes
 abbrev pub wants_of : Command → Wants

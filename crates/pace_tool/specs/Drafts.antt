@@ -1,5 +1,6 @@
 -- What `loops` gives for an image, and what the stored file keeps to.
 use Rattle.std.specs.Prelude.{◌≡◌, ℕ, ◌<◌, ◌≤◌, true, List, length, Some, Result, Ok, Err}
+use Rattle.scale_base.specs.declared.limits.TheConstants.{FILE_LIMIT}
 use Rattle.scale_base.specs.declared.refusal.Refusal.{Refusal}
 use Rattle.scale_base.specs.Image.{Image, image_of}
 use Rattle.scale_base.specs.Run.{run_of}
@@ -100,7 +101,7 @@ pub record IsDraftedSafely (image stored : List ℕ) (draft : LoopDraft) : Type 
   pub original : Image
   pub is_image : image_of image ≡ Ok original
   -- it isn't too long to be loaded
-  pub short : length stored ≤ 1048576
+  pub short : length stored ≤ FILE_LIMIT
   -- where no loop is open, it is a loop file of the image
   pub whole : draft.unbounded ≡ 0 → IsLoopFile original draft stored
   -- where all bounds are proved as well, every run keeps it whose returns go back, on every input

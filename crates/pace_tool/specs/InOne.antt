@@ -2,6 +2,7 @@
 use Rattle.std.specs.Prelude.{◌≡◌, ◌⊎◌, ℕ, ◌<◌, ◌≤◌, ◌++◌, ◌==◌, ◌||◌, not, Bool, true, false, List, [], length, flat_map, if◌then◌else◌, Result, Ok, Err, string_bytes}
 use Rattle.std.specs.FinMap.{get}
 use Rattle.std.specs.List.{list_any}
+use Rattle.scale_base.specs.declared.limits.TheConstants.{IMAGE_LIMIT}
 use Rattle.scale_base.specs.declared.refusal.Refusal.{Refusal}
 use Rattle.scale_base.specs.declared.refusal.Refusal.TheVariants.{TooLarge}
 use Rattle.scale_base.specs.declared.summary.Lowered.{Lowered}
@@ -71,8 +72,8 @@ behind text answer = if answer.status == 0 then record answer { text = text ++ a
 -- the name of OUT.
 abbrev pub MakesFitted : (machine out : List ℕ) (inputs : List (List ℕ)) (image file text : List ℕ) → Answer → Type 0
 MakesFitted machine out inputs image file text answer =
-    ((4194304 < length image) × (answer ≡ refused (TooLarge out)))
-    ⊎ ((length image ≤ 4194304) × ((fitted : Answer) × MakesFit image machine file inputs out fitted × (answer ≡ behind text fitted)))
+    ((IMAGE_LIMIT < length image) × (answer ≡ refused (TooLarge out)))
+    ⊎ ((length image ≤ IMAGE_LIMIT) × ((fitted : Answer) × MakesFit image machine file inputs out fitted × (answer ≡ behind text fitted)))
 
 -- the answer for an image whose loops are drafted, with what is told up to there
 abbrev pub MakesDrafted : (machine out : List ℕ) (inputs : List (List ℕ)) (image text : List ℕ) → Result (List ℕ × LoopDraft) Refusal →
@@ -90,7 +91,7 @@ MakesOfTried machine out inputs tried text answer =
 
 -- ---- versions
 
--- The image that is fitted, with what is told of it: the one that goes on, or, where versions are asked for, one of it in which a loop is there twice and by which a fit takes less.
+-- The image that is fitted, with what is told of it: the one that goes on, or, where versions are tried, one of it in which code is there twice and by which a fit takes less.
 abbrev pub IsTried : (machine : List ℕ) (inputs : List (List ℕ)) (versions : Bool) (plain tried text : List ℕ) → Type 0
 IsTried machine inputs false plain tried text = (tried ≡ plain) × (text ≡ [])
 IsTried machine inputs true plain tried text = ((tried ≡ plain) × (text ≡ no_version_text))

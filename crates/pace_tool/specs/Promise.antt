@@ -13,10 +13,11 @@ use Rattle.scale_base.specs.declared.summary.Lowered.{Lowered}
 use Rattle.image_lower.specs.Lowered.{IsLowered}
 use Rattle.image_lower.specs.Promise.{IsLoweredSafely}
 use Rattle.loop_drafts.specs.declared.drafted.LoopDraft.{LoopDraft}
+use Rattle.loop_drafts.specs.Drafted.{IsDrafted}
 use Rattle.loop_drafts.specs.Kept.{AreBytes}
 use Rattle.loop_versions.specs.declared.pieces.Piece.{Piece}
 use Rattle.loop_versions.specs.declared.pieces.Site.{Site}
-use Rattle.loop_versions.specs.Follows.{FollowsVersioned, StaysOutside}
+use Rattle.loop_versions.specs.Follows.{FollowsVersioned, GoesBack, StaysOutside}
 use Rattle.loop_versions.specs.Made.{IsVersioned}
 use Rattle.version_laws.specs.Exits.{ExitsAlike}
 use Rattle.pace_tool.specs.Command.{Command, Fit, Loops, InOne}
@@ -28,7 +29,9 @@ abbrev pub FitsAny : (image machine loops : List ℕ) → List (List ℕ) → Re
 FitsAny image machine loops inputs given = (proposals : List Proposal) × Fits image machine loops inputs proposals given
 
 -- A file is a versioned image of another one. Where that exits, so does it, with the same status and output; and it follows each run of that which goes to no address of the
--- pieces, whatever its ending. But for the steps at sites, bridges and guards its steps are of the same classes.
+-- pieces, whatever its ending, but for a trap at a return that is inlined. Where calls are inlined, both are said of runs whose returns go back to their calls: that is each run on
+-- each input, where a draft of that other file says that returns are proved. But for the steps at sites, bridges and guards, and those that fill x1 for an inlined call, its steps
+-- are of the same classes.
 pub record IsVersionedSafely (plain tried : List ℕ) : Type 0 where
   pub image : Image
   pub versioned : Image
@@ -38,19 +41,23 @@ pub record IsVersionedSafely (plain tried : List ℕ) : Type 0 where
   pub is_read : image_of plain ≡ Ok image
   pub is_versioned : IsVersioned image versioned pieces sites base
   pub file : versioned.file ≡ tried
-  pub exits : (levels : ℕ) (input : List ℕ) (n status : ℕ) → AreBytes input → (run_of image levels input n).standing ≡ HasExited status →
+  pub exits : (levels : ℕ) (input : List ℕ) (n status : ℕ) → AreBytes input → GoesBack image versioned pieces sites base levels input n →
+      (run_of image levels input n).standing ≡ HasExited status →
       (m : ℕ) × ExitsAlike image versioned pieces sites base status (run_of image levels input n) (run_of versioned levels input m)
   pub follows : (levels : ℕ) (input : List ℕ) (n : ℕ) → AreBytes input → StaysOutside image versioned pieces sites base levels input n →
+      GoesBack image versioned pieces sites base levels input n →
       (m : ℕ) × FollowsVersioned image versioned pieces sites base (run_of image levels input n) (run_of versioned levels input m)
+  pub goes_back : (draft : LoopDraft) → IsDrafted plain (Ok draft) → draft.returns ≡ true →
+      (levels : ℕ) (input : List ℕ) (n : ℕ) → AreBytes input → GoesBack image versioned pieces sites base levels input n
 
--- the image that is fitted is the one that goes on, or, where versions were asked for, one of it that follows it
+-- the image that is fitted is the one that goes on, or, where versions are tried, one of it that follows it
 abbrev pub IsTriedSafely : Bool → (plain tried : List ℕ) → Type 0
 IsTriedSafely false plain tried = tried ≡ plain
 IsTriedSafely true plain tried = (tried ≡ plain) ⊎ IsVersionedSafely plain tried
 
--- What `all` promises: OUT has a choice that is fitted to the image that goes on, or to one of it in which a loop is there twice, with the draft of its loops as its loop file. No
+-- What `all` promises: OUT has a choice that is fitted to the image that goes on, or to one of it in which code is there twice, with the draft of its loops as its loop file. No
 -- loop of the draft is open, and it keeps what `loops` promises of it; the choice keeps what `fit` promises of it; where jumps were lowered, the image that goes on follows the one
--- that was loaded, as `lower` promises; and where a loop is there twice, that image follows the one that goes on.
+-- that was loaded, as `lower` promises; and where code is there twice, that image follows the one that goes on.
 pub record IsFittedInOne (image machine : List ℕ) (inputs : List (List ℕ)) (versions : Bool) (out : Option (List ℕ)) : Type 0 where
   pub plain : List ℕ
   pub text : List ℕ

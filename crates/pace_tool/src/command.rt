@@ -7,6 +7,7 @@ ghost use Rattle.pace_tool.specs.Views.{command_view, texts, want_view};
 
 use crate::input_names::InputNames;
 use host_runs::Want;
+use scale_base::{FILE_LIMIT, IMAGE_LIMIT, STORED_LIMIT};
 use std::alloc::{AllocError, Global};
 
 /// The names of a program's files.
@@ -57,7 +58,7 @@ pub struct DrawPlan<'a> {
 }
 
 /// The command `all`, with the names of its files: it drafts and lowers the jumps of a program, drafts its loops, and stores the image that is fitted to inputs. With
-/// versions, that may be one in which a loop is there twice.
+/// versions, that may be one in which code is there twice.
 #[derive(Clone, Copy)]
 pub struct InOne<'a> {
     pub image: &'a str,
@@ -81,13 +82,6 @@ pub enum Job<'a> {
     Jumps(Jumps<'a>),
     InOne(InOne<'a>),
 }
-
-// How many bytes an image may have, how many one that may have been scaled, and how many any other file.
-const IMAGE_LIMIT: u64 = 4194304;
-
-const SCALED_LIMIT: u64 = 8388608;
-
-const TEXT_LIMIT: u64 = 1048576;
 
 /// The files that are loaded, in order.
 pub fn wants<'a>(alloc: Global, command: &Job<'a>) -> Result<Vec<Want<'a>>, AllocError>
@@ -140,11 +134,11 @@ fn tables_want<'a>(
     inputs: &[&'a str],
     number: usize,
 ) -> Option<Want<'a>>
-    ensures { option_map want_view result ≡ slice_get ((machine.now, 1048576) ∷ (loops.now, 1048576) ∷ input_wants (texts inputs.now))
+    ensures { option_map want_view result ≡ slice_get ((machine.now, FILE_LIMIT) ∷ (loops.now, FILE_LIMIT) ∷ input_wants (texts inputs.now))
         number }
 {
     if number == 0 {
-        Some(want(machine, TEXT_LIMIT))
+        Some(want(machine, FILE_LIMIT))
     } else {
         loops_want(loops, inputs, number - 1)
     }
@@ -152,10 +146,10 @@ fn tables_want<'a>(
 
 // Of a loop file and inputs.
 fn loops_want<'a>(loops: &'a str, inputs: &[&'a str], number: usize) -> Option<Want<'a>>
-    ensures { option_map want_view result ≡ slice_get ((loops.now, 1048576) ∷ input_wants (texts inputs.now)) number }
+    ensures { option_map want_view result ≡ slice_get ((loops.now, FILE_LIMIT) ∷ input_wants (texts inputs.now)) number }
 {
     if number == 0 {
-        Some(want(loops, TEXT_LIMIT))
+        Some(want(loops, FILE_LIMIT))
     } else {
         input_want(inputs, number - 1)
     }
@@ -183,7 +177,7 @@ fn machine_want<'a>(
 {
     match number {
         0 => Some(want(image, IMAGE_LIMIT)),
-        1 => Some(want(machine, TEXT_LIMIT)),
+        1 => Some(want(machine, FILE_LIMIT)),
         _ => input_want(inputs, number - 2),
     }
 }
@@ -193,7 +187,7 @@ fn drawn_want<'a>(machine: &'a str, names: &[&'a str], number: usize) -> Option<
     ensures { option_map want_view result ≡ slice_get (drawn_wants machine.now (texts names.now)) number }
 {
     if number == 0 {
-        Some(want(machine, TEXT_LIMIT))
+        Some(want(machine, FILE_LIMIT))
     } else {
         run_want(names, number - 1)
     }
@@ -205,8 +199,8 @@ fn run_want<'a>(names: &[&'a str], number: usize) -> Option<Want<'a>>
 {
     match names {
         [image, input, others @ ..] => match number {
-            0 => Some(want(image, SCALED_LIMIT)),
-            1 => Some(want(input, TEXT_LIMIT)),
+            0 => Some(want(image, STORED_LIMIT)),
+            1 => Some(want(input, FILE_LIMIT)),
             _ => run_want(others, number - 2),
         },
         _ => None,
@@ -218,16 +212,19 @@ fn input_want<'a>(inputs: &[&'a str], number: usize) -> Option<Want<'a>>
     ensures { option_map want_view result ≡ slice_get (input_wants (texts inputs.now)) number }
 {
     if number < inputs.len() {
-        Some(want(inputs[number], TEXT_LIMIT))
+        Some(want(inputs[number], FILE_LIMIT))
     } else {
         None
     }
 }
 
-fn want(name: &str, limit: u64) -> Want<'_>
+fn want(name: &str, limit: usize) -> Want<'_>
     ensures { (result.name.now ≡ name.now) × (result.limit ≡ limit) }
 {
-    Want { name, limit }
+    Want {
+        name,
+        limit: limit as u64,
+    }
 }
 
 /// The name of the file that is loaded as that number, from 0.

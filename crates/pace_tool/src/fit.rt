@@ -2,6 +2,7 @@
 
 ghost use Rattle.std.specs.Prelude.{◌≤◌, length, IfOk};
 ghost use Rattle.std.specs.List.{All, AllZip};
+ghost use Rattle.scale_base.specs.declared.limits.TheConstants.{FILE_LIMIT};
 ghost use Rattle.host_runs.specs.Answer.{Tells, stored_answer};
 ghost use Rattle.host_runs.specs.Views.{files_view, reply_view};
 ghost use Rattle.pace_fit.specs.Endings.{endings_on};
@@ -19,7 +20,7 @@ use host_runs::{ProgramFiles, Reply};
 use pace_fit::{Prepared, choose, prepare};
 use paced_images::Proposal;
 use run_progress::Progress;
-use scale_base::{NoMemory, Stop};
+use scale_base::{FILE_LIMIT, NoMemory, Stop};
 use std::alloc::Global;
 use version_fits::proposals_of;
 
@@ -28,7 +29,7 @@ use version_fits::proposals_of;
 pub struct Inputs<'a> {
     pub items: &'a [Vec<u8>],
     ghost few: { length items.now ≤ 64 },
-    ghost short: { All (λ input. length input.items ≤ 1048576) items.now },
+    ghost short: { All (λ input. length input.items ≤ FILE_LIMIT) items.now },
 }
 
 /// What is to be fitted: the files of a program, the inputs, and the name under which the choice is stored.

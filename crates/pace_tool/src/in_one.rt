@@ -2,6 +2,7 @@
 
 ghost use Rattle.std.specs.Prelude.{◌≡◌, ◌<◌, ◌≤◌, ◌++◌, length, string_bytes, true, IfOk, IfSome, OnOk};
 ghost use Rattle.std.specs.List.{AllZip};
+ghost use Rattle.scale_base.specs.declared.limits.TheConstants.{FILE_LIMIT};
 ghost use Rattle.loop_drafts.specs.Kept.{AreBytes};
 ghost use Rattle.host_runs.specs.Views.{files_view, reply_view};
 ghost use Rattle.pace_tool.specs.Answer.{Makes};
@@ -18,12 +19,9 @@ use crate::texts::{drafted_text, version_text};
 use host_runs::{ProgramFiles, Reply};
 use loop_drafts::{LoopDraft, Piece, draft_loops, printed_text};
 use run_progress::Progress;
-use scale_base::{NoMemory, Stop};
+use scale_base::{FILE_LIMIT, IMAGE_LIMIT, NoMemory, Stop};
 use std::alloc::{AllocError, Global};
 use version_fits::{ChosenVersion, FitGoal, choose_version};
-
-/// So many bytes of an image are loaded.
-const IMAGE_LIMIT: usize = 4_194_304;
 
 /// What an image is fitted to: a machine, inputs, and the name under which the choice is stored.
 #[derive(Clone, Copy)]
@@ -32,7 +30,7 @@ struct Goal<'f, 'n> {
     inputs: Inputs<'f>,
     out: &'n str,
     versions: bool,
-    ghost short: { length machine.now ≤ 1048576 },
+    ghost short: { length machine.now ≤ FILE_LIMIT },
 }
 
 // Adds the pieces of loops that have no bound.
@@ -86,7 +84,7 @@ fn fitted_reply<P: Progress>(
     text: String,
     progress: &mut P,
 ) -> Result<Reply, NoMemory>
-    requires { length file.now ≤ 1048576 }
+    requires { length file.now ≤ FILE_LIMIT }
     ensures { IfOk result (λ reply. MakesFitted goal.now.machine.now goal.now.out.now (files_view goal.now.inputs.items.now) image.now
         file.now (string_bytes text) (reply_view reply)) }
 {
@@ -161,7 +159,7 @@ fn version_of<P: Progress>(
     choose_version(alloc, &to, image, progress)
 }
 
-// What is made of an image, where versions are asked for and one is chosen.
+// What is made of an image, where versions are tried and one is chosen.
 fn version_reply<P: Progress>(
     alloc: Global,
     goal: &Goal<'_, '_>,
@@ -193,7 +191,7 @@ fn unversioned_reply<P: Progress>(
     tried_reply(alloc, goal, image, text, progress)
 }
 
-// The same, where versions are asked for.
+// The same, where versions are tried.
 fn versions_reply<P: Progress>(
     alloc: Global,
     goal: &Goal<'_, '_>,
@@ -235,7 +233,7 @@ fn image_reply<P: Progress>(
     image: &[u8],
     progress: &mut P,
 ) -> Result<Reply, NoMemory>
-    requires { length image.now ≤ 4194304 }
+    requires { length image.now ≤ IMAGE_LIMIT }
     ensures { IfOk result (λ reply. MakesInOne image.now goal.now.machine.now (files_view goal.now.inputs.items.now) goal.now.versions
         goal.now.out.now (reply_view reply)) }
 {
@@ -255,8 +253,8 @@ fn goal_reply<P: Progress>(
     inputs: &Inputs<'_>,
     progress: &mut P,
 ) -> Result<Reply, NoMemory>
-    requires image { length image.now ≤ 4194304 }
-    requires machine { length machine.now ≤ 1048576 }
+    requires image { length image.now ≤ IMAGE_LIMIT }
+    requires machine { length machine.now ≤ FILE_LIMIT }
     ensures bytes { AreBytes image.now }
     ensures told { IfOk result (λ reply. MakesInOne image.now machine.now (files_view inputs.now.items.now) command.now.versions
         command.now.out.now (reply_view reply)) }

@@ -9,7 +9,7 @@ ghost use Rattle.pace_tool.specs.Told.{written_view};
 
 use image_lower::lower;
 use jump_drafts::{JumpDraft, OpenJump, Reason, draft_jumps, jumps_text};
-use scale_base::{Lowered, NoMemory, Stop};
+use scale_base::{IMAGE_LIMIT, Lowered, NoMemory, Stop};
 use scale_report::lowered_text;
 use std::alloc::Global;
 
@@ -50,7 +50,7 @@ fn push_lowered(alloc: Global, text: &mut String, counts: &Lowered) -> Result<()
 
 // The image lowered by the draft.
 fn lowered(alloc: Global, image: &[u8], draft: &JumpDraft) -> Result<(Vec<u8>, String), Stop>
-    requires { length image.now ≤ 4194304 }
+    requires { length image.now ≤ IMAGE_LIMIT }
     ensures { AnswersBy written_view result (IsPlainFor true image.now draft.now) }
 {
     let mut text = jumps_text(alloc, draft)?;
@@ -61,7 +61,7 @@ fn lowered(alloc: Global, image: &[u8], draft: &JumpDraft) -> Result<(Vec<u8>, S
 
 // The image by the draft of its jumps.
 fn plain_by(alloc: Global, image: &[u8], draft: &JumpDraft) -> Result<(Vec<u8>, String), Stop>
-    requires { length image.now ≤ 4194304 }
+    requires { length image.now ≤ IMAGE_LIMIT }
     ensures { AnswersBy written_view result (IsPlainFor (has_jumps draft.now) image.now draft.now) }
 {
     if has_jumps(draft) {
@@ -73,7 +73,7 @@ fn plain_by(alloc: Global, image: &[u8], draft: &JumpDraft) -> Result<(Vec<u8>, 
 
 /// The image that goes on, with what is told of it, or the refusal of the draft of its jumps or of `lower`.
 pub fn plain_image(alloc: Global, image: &[u8]) -> Result<(Vec<u8>, String), Stop>
-    requires { length image.now ≤ 4194304 }
+    requires { length image.now ≤ IMAGE_LIMIT }
     ensures { AnswersBy written_view result (MakesPlain image.now) }
 {
     let draft = draft_jumps(alloc, image)?;

@@ -146,10 +146,12 @@ fn all_line<'a>(alloc: Global) -> Result<CommandLine<'a>, AllocError> {
     .arg(required(alloc, "OUT", "The name of the image that is stored"))?
     .arg(inputs(alloc, "Up to 64 inputs that the program is fitted to"))?
     .arg(
-        Arg::new(alloc, "versions")
-            .long("versions")
+        Arg::new(alloc, "no-versions")
+            .long("no-versions")
             .action(ArgAction::SetTrue)
-            .help("Also tries images in which a loop is there twice, for few turns and for many"),
+            .help(
+                "Tries no images in which code is there twice, for few turns of loops and for many",
+            ),
     )
 }
 
@@ -240,7 +242,7 @@ fn in_one_of<'m>(given: &'m ArgMatches<'_>) -> Option<InOne<'m>> {
         image: given.get_str("IMAGE")?,
         machine: given.get_str("MACHINE")?,
         out: given.get_str("OUT")?,
-        versions: given.get_flag("versions"),
+        versions: !given.get_flag("no-versions"),
         inputs: inputs_of(given)?,
     })
 }

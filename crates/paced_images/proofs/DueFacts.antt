@@ -11,7 +11,8 @@ use Rattle.scale_base.specs.declared.fragments.Mark.TheVariants as marks
 use Rattle.scale_sites.specs.Forms.{IsQuietMark, IsFirstAlone}
 use Rattle.cost_theory.specs.Worst.{Numbers}
 use Rattle.cycle_laws.specs.Charged.{Charged}
-use Rattle.level_tables.specs.Tables.{EdgeNumbers, tally_from, tally_shift}
+use Rattle.level_tables.specs.Tables.{tally_from, tally_shift}
+use Rattle.level_tables.specs.declared.edge_numbers.EdgeNumbers.{EdgeNumbers}
 use Rattle.flow_graph.specs.FlowGraph.{FlowGraph}
 use Rattle.loop_forest.specs.Tree.{LoopView, loops}
 use Rattle.scale_sites.specs.Counters.{counted_loops}

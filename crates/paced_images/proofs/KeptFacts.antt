@@ -101,16 +101,19 @@ proposal_stops image machine loops proposal Memory h = tt
 abbrev pub IsProgramOf : (image machine loops : List ℕ) → Proposal → Program → Type 0
 IsProgramOf image machine loops proposal p = IsProgramFrom image machine loops proposal.sites.items proposal.counted proposal.tallied.items proposal.share p
 
-module _ (image machine loops : List ℕ) (proposal : Proposal) (sites : List SwitchSite) (tallied : List ℕ) (same_sites : sites ≡ proposal.sites.items) (same_tallied : tallied ≡ proposal.tallied.items) where
-  pub program_is : (p : Program) → IsProgramFrom image machine loops sites proposal.counted tallied proposal.share p → IsProgramOf image machine loops proposal p
-  program_is p h = subst (λ (ts : List ℕ). IsProgramFrom image machine loops proposal.sites.items proposal.counted ts proposal.share p) same_tallied
-      (subst (λ (ss : List SwitchSite). IsProgramFrom image machine loops ss proposal.counted tallied proposal.share p) same_sites h)
+module _ (image machine loops : List ℕ) (proposal : Proposal) (sites : List SwitchSite) (counted : Bool) (tallied : List ℕ) (share : ℕ)
+    (same_sites : sites ≡ proposal.sites.items) (same_counted : counted ≡ proposal.counted) (same_tallied : tallied ≡ proposal.tallied.items) (same_share : share ≡ proposal.share) where
+  moved : (P : List SwitchSite → Bool → List ℕ → ℕ → Type 0) → P sites counted tallied share → P proposal.sites.items proposal.counted proposal.tallied.items proposal.share
+  moved P h = subst (λ n. P proposal.sites.items proposal.counted proposal.tallied.items n) same_share (subst (λ ts. P proposal.sites.items proposal.counted ts share) same_tallied
+      (subst (λ b. P proposal.sites.items b tallied share) same_counted (subst (λ ss. P ss counted tallied share) same_sites h)))
 
-  pub program_stops : (stop : Stop) → AnswersBy {X = Program} {Y = Program} (λ p. p) (Err stop) (IsProgramFound image machine loops sites proposal.counted tallied proposal.share) →
+  pub program_is : (p : Program) → IsProgramFrom image machine loops sites counted tallied share p → IsProgramOf image machine loops proposal p
+  program_is p h = moved (λ ss b ts n. IsProgramFrom image machine loops ss b ts n p) h
+
+  pub program_stops : (stop : Stop) → AnswersBy {X = Program} {Y = Program} (λ p. p) (Err stop) (IsProgramFound image machine loops sites counted tallied share) →
       AnswersBy {X = Option (Vec ℕ Global × Summary)} {Y = Option (List ℕ × Summary)} (option_map shown) (Err stop) (IsProposalPaced image machine loops proposal)
   program_stops stop h = proposal_stops image machine loops proposal stop
-      (subst (λ (ts : List ℕ). AnswersBy {X = Program} {Y = Program} (λ p. p) (Err stop) (IsProgramFound image machine loops proposal.sites.items proposal.counted ts proposal.share)) same_tallied
-      (subst (λ (ss : List SwitchSite). AnswersBy {X = Program} {Y = Program} (λ p. p) (Err stop) (IsProgramFound image machine loops ss proposal.counted tallied proposal.share)) same_sites h))
+      (moved (λ ss b ts n. AnswersBy {X = Program} {Y = Program} (λ p. p) (Err stop) (IsProgramFound image machine loops ss b ts n)) h)
 
 module _ (image machine loops : List ℕ) (proposal : Proposal) (p : Program) (h : IsProgramOf image machine loops proposal p) (kept : List SwitchSite) (kept_tallied : List ℕ) where
   pub kept_of : (sites : List SwitchSite) (tallied : List ℕ) → sites ≡ proposal.sites.items → tallied ≡ proposal.tallied.items → AreKeptBy p.power p.marked sites kept → AreLoopsKeptBy p.power p.marked tallied kept_tallied → AreKeptOf image machine loops proposal (kept, kept_tallied)

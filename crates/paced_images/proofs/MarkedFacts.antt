@@ -17,7 +17,7 @@ use Rattle.loop_file.specs.declared.notes.LoopNote.{LoopNote}
 use Rattle.loop_forest.specs.Tree.{LoopView, IsTreeOf}
 use Rattle.scale_sites.specs.Counters.{AreCounters, counted_loops}
 use Rattle.rewritten_runs.specs.Stubs.{IsWeighedWith}
-use Rattle.marked_images.specs.declared.scaling.Marked.{Marked}
+use Rattle.marked_images.specs.declared.stubs.Marked.{Marked}
 use Rattle.marked_images.specs.declared.stubs.Marking.{Marking}
 use Rattle.marked_images.specs.Markings.{IsMarking}
 use Rattle.marked_images.specs.Scalings.{IsMarkingFound, IsUnfit}

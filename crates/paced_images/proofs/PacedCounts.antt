@@ -23,7 +23,7 @@ use Rattle.scale_sites.specs.Forms.{first_tally, counter_after, counter_behind}
 use Rattle.scale_sites.specs.Marks.{first_counter}
 use Rattle.scale_sites.specs.Sites.{marks_where}
 use Rattle.scale_sites.proofs.Laws.{first_tally_from, formed_counts}
-use Rattle.level_tables.specs.Tables as tables
+use Rattle.level_tables.specs.declared.edge_numbers.EdgeNumbers.{EdgeNumbers}
 use Rattle.stub_writer.specs.Stubs.{Site}
 use Rattle.stored_runs.specs.Marks.{place_at, fragments_of_class, counters_after, counters_behind}
 use Rattle.paid_runs.specs.Marked as marked_specs
@@ -34,7 +34,7 @@ use Rattle.marked_images.proofs.Laws.{slack_plain, slack_stored, slack_weighed}
 
 -- ---- fragments act as their marks do
 
-acts : (power : PowerModel) (test : tables.EdgeNumbers → ℕ → ℕ → Bool) (l : Loops) (counted : List ℕ) (n : Numbers) (told : tables.EdgeNumbers) (m : Mark) (c : ℕ → ℕ) (w : ℕ) → counters_after (fragment_by power test l counted n told m) c w ≡ effect m w (c w)
+acts : (power : PowerModel) (test : EdgeNumbers → ℕ → ℕ → Bool) (l : Loops) (counted : List ℕ) (n : Numbers) (told : EdgeNumbers) (m : Mark) (c : ℕ → ℕ) (w : ℕ) → counters_after (fragment_by power test l counted n told m) c w ≡ effect m w (c w)
 acts power test l counted n told marks.Switch c w = refl
 acts power test l counted n told (marks.Exit i) c w = refl
 acts power test l counted n told (marks.Reset i) c w = refl
@@ -42,7 +42,7 @@ acts power test l counted n told (marks.Count i) c w = refl
 acts power test l counted n told marks.Lowest c w = refl
 acts power test l counted n told (marks.Tally i) c w = refl
 
-pub all_act : (power : PowerModel) (test : tables.EdgeNumbers → ℕ → ℕ → Bool) (l : Loops) (counted : List ℕ) (n : Numbers) (told : tables.EdgeNumbers) (ms : List Mark) (c : ℕ → ℕ) (w : ℕ) → counters_behind (map (fragment_by power test l counted n told) ms) c w ≡ through w ms (c w)
+pub all_act : (power : PowerModel) (test : EdgeNumbers → ℕ → ℕ → Bool) (l : Loops) (counted : List ℕ) (n : Numbers) (told : EdgeNumbers) (ms : List Mark) (c : ℕ → ℕ) (w : ℕ) → counters_behind (map (fragment_by power test l counted n told) ms) c w ≡ through w ms (c w)
 all_act power test l counted n told [] c w = refl
 all_act power test l counted n told (m ∷ ms) c w = all_act power test l counted n told ms (counters_after (fragment_by power test l counted n told m) c) w ∙ ap (through w ms) (acts power test l counted n told m c w)
 
@@ -60,7 +60,7 @@ all_alike w [] x = refl
 all_alike w (m ∷ ms) x = all_alike w ms (effect m w x) ∙ ap (counter_behind w ms) (one_alike m w x)
 
 module _ (power : PowerModel) (image : Image) (notes : List LoopNote) (v : FlowGraph) (tree : LoopView) (wanted : Wanted) (stored : Numbers) (by_marks : IsWeighedWith power image notes v tree (marked_where v tree wanted) stored) (kinds_are : ChoosesSites v wanted.switch)
-    (test : tables.EdgeNumbers → ℕ → ℕ → Bool) (least : Charged) (sites : List Site) (are : AreSitesOf image v.code (fragments_with power test image v tree (marked_where v tree wanted) stored least) sites) where
+    (test : EdgeNumbers → ℕ → ℕ → Bool) (least : Charged) (sites : List Site) (are : AreSitesOf image v.code (fragments_with power test image v tree (marked_where v tree wanted) stored least) sites) where
   abbrev plain : Numbers
   plain = slack_plain power image notes v tree wanted stored by_marks kinds_are
 

@@ -77,7 +77,7 @@ module _ (power : PowerModel) (ok : IsPowerModel power) (image : Image) (notes :
   abbrev chosen : Wanted
   chosen = wanted_of v t wanted tallied
 
-  abbrev test : Rattle.level_tables.specs.Tables.EdgeNumbers → ℕ → ℕ → Bool
+  abbrev test : Rattle.level_tables.specs.declared.edge_numbers.EdgeNumbers.EdgeNumbers → ℕ → ℕ → Bool
   test = paced_test power start (is.stored.worst 0) share
 
   abbrev budget : ℕ → ℕ

@@ -22,6 +22,7 @@ use Rattle.scale_base.specs.declared.fragments.Mark.TheVariants as marks
 use Rattle.scale_sites.specs.Counters.{counted_loops}
 use Rattle.scale_sites.specs.Weights.{tail_of}
 use Rattle.level_tables.specs.Tables as tables
+use Rattle.level_tables.specs.declared.edge_numbers.EdgeNumbers.{EdgeNumbers}
 use Rattle.level_tables.specs.Budgets.{meets_in_budget}
 use Rattle.level_tables.proofs.Laws.{entry-least, lowest_goes, tallies_safe, word_by-at}
 use Rattle.stub_writer.specs.Stubs.{Site}
@@ -40,20 +41,20 @@ use Rattle.paced_images.proofs.PacedWeights.{tail_is, stored_same}
 
 -- ---- entries
 
-entry_kept : (test : tables.EdgeNumbers → ℕ → ℕ → Bool) (told : tables.EdgeNumbers) (i : ℕ) → IsEntryBy test told i (tables.entry_by test told i)
+entry_kept : (test : EdgeNumbers → ℕ → ℕ → Bool) (told : EdgeNumbers) (i : ℕ) → IsEntryBy test told i (tables.entry_by test told i)
 entry_kept test told i =
     let e = entry-least test told i in
     ⊎_elim (λ (lt : tables.entry_by test told i < i). inr (lt, e.meets lt)) (λ (ge : i ≤ tables.entry_by test told i). inl (let u = e.up_to in omega (arith, ge, u))) (cases_lt (tables.entry_by test told i) i)
 
-word_kept : (power : PowerModel) (test : tables.EdgeNumbers → ℕ → ℕ → Bool) (told : tables.EdgeNumbers) (i : ℕ) → length power.levels ≤ 8 → i < length power.levels → IsEntryBy test told i (four_bits (tables.word_by power test told) i)
+word_kept : (power : PowerModel) (test : EdgeNumbers → ℕ → ℕ → Bool) (told : EdgeNumbers) (i : ℕ) → length power.levels ≤ 8 → i < length power.levels → IsEntryBy test told i (four_bits (tables.word_by power test told) i)
 word_kept power test told i few lt = subst (IsEntryBy test told i) (sym (word_by-at power test told i few lt)) (entry_kept test told i)
 
-abbrev numbers_with : ℕ → ℕ → Option ℕ → tables.EdgeNumbers
+abbrev numbers_with : ℕ → ℕ → Option ℕ → EdgeNumbers
 numbers_with slack left least = record { slack = slack; left = left; least = least }
 
 module _ (power : PowerModel) (ok : IsPowerModel power) (image : Image) (notes : List LoopNote) (v : FlowGraph) (tree : LoopView) (wanted : Wanted) (stored : Numbers) (by_marks : IsWeighedWith power image notes v tree (marked_where v tree wanted) stored) (kinds_are : ChoosesSites v wanted.switch)
     (budget : ℕ → ℕ) (least : Charged) (sites : List Site) (are : AreSitesOf image v.code (fragments_with power (meets_in_budget power budget) image v tree (marked_where v tree wanted) stored least) sites) where
-  abbrev test : tables.EdgeNumbers → ℕ → ℕ → Bool
+  abbrev test : EdgeNumbers → ℕ → ℕ → Bool
   test = meets_in_budget power budget
 
   abbrev plain : Numbers
@@ -86,7 +87,7 @@ module _ (power : PowerModel) (ok : IsPowerModel power) (image : Image) (notes :
   abbrev w : ℕ → ℕ
   w = weights_of power (text_of image) v.code sites
 
-  abbrev told : ℕ → tables.EdgeNumbers
+  abbrev told : ℕ → EdgeNumbers
   told e = told_at power image v tree marked stored least e
 
   abbrev pub is_of : ℕ → ℕ → Bool
@@ -125,7 +126,7 @@ module _ (power : PowerModel) (ok : IsPowerModel power) (image : Image) (notes :
   led e m ms lt is = marked_led power image notes v tree wanted stored by_marks kinds_are e lt (λ none. (let never : ⊥ = cc in never))
 
   -- every level goes to the lowest one where those above it meet the test
-  all_lowest : (numbers : tables.EdgeNumbers) → ((i : ℕ) → 0 < i → i < length power.levels → test numbers i 0 ≡ true) → AreAllLowest power test numbers
+  all_lowest : (numbers : EdgeNumbers) → ((i : ℕ) → 0 < i → i < length power.levels → test numbers i 0 ≡ true) → AreAllLowest power test numbers
   all_lowest numbers meets i low = ⊎_elim (λ (pos : 0 < i). inr (pos, meets i pos low)) (λ (none : i ≤ 0). inl (omega (arith, none))) (cases_lt 0 i)
 
   -- a back edge leads to a place that its loop is round

@@ -28,7 +28,7 @@ use Rattle.scale_base.specs.declared.fragments.Mark.TheVariants as marks
 use Rattle.scale_sites.specs.Counters.{counted_loops}
 use Rattle.scale_sites.specs.Sites.{is_branch}
 use Rattle.scale_sites.specs.Weights.{marks_cost, some_mark, is_patched, jumps_of, extra_of, extra_weight, tail_of}
-use Rattle.level_tables.specs.Tables as tables
+use Rattle.level_tables.specs.declared.edge_numbers.EdgeNumbers.{EdgeNumbers}
 use Rattle.stub_writer.specs.Stubs.{Site, Place, Forked, Straight}
 use Rattle.stored_runs.specs.Cycles.{fragment_cost, fragment_tail}
 use Rattle.stored_runs.specs.Marks.{place_at, fragments_of_class, jumps_by, tail_cycles}
@@ -43,7 +43,7 @@ use Rattle.marked_images.proofs.Laws.{marked_led, slack_plain, slack_stored, sla
 
 -- ---- fragments cost what their marks do
 
-one_cost : (power : PowerModel) (test : tables.EdgeNumbers → ℕ → ℕ → Bool) (l : Loops) (counted : List ℕ) (n : Numbers) (told : tables.EdgeNumbers) (m : Mark) → fragment_cost (cycles_of power.costs) (fragment_by power test l counted n told m) ≡ Rattle.scale_sites.specs.Weights.mark_cost power.costs m
+one_cost : (power : PowerModel) (test : EdgeNumbers → ℕ → ℕ → Bool) (l : Loops) (counted : List ℕ) (n : Numbers) (told : EdgeNumbers) (m : Mark) → fragment_cost (cycles_of power.costs) (fragment_by power test l counted n told m) ≡ Rattle.scale_sites.specs.Weights.mark_cost power.costs m
 one_cost power test l counted n told marks.Switch = omega arith
 one_cost power test l counted n told (marks.Exit i) = omega arith
 one_cost power test l counted n told (marks.Reset i) = omega arith
@@ -51,7 +51,7 @@ one_cost power test l counted n told (marks.Count i) = omega arith
 one_cost power test l counted n told marks.Lowest = omega arith
 one_cost power test l counted n told (marks.Tally i) = omega arith
 
-pub marks_cost_is : (power : PowerModel) (test : tables.EdgeNumbers → ℕ → ℕ → Bool) (l : Loops) (counted : List ℕ) (n : Numbers) (told : tables.EdgeNumbers) (ms : List Mark) → sum_by (fragment_cost (cycles_of power.costs)) (map (fragment_by power test l counted n told) ms) ≡ marks_cost power.costs ms
+pub marks_cost_is : (power : PowerModel) (test : EdgeNumbers → ℕ → ℕ → Bool) (l : Loops) (counted : List ℕ) (n : Numbers) (told : EdgeNumbers) (ms : List Mark) → sum_by (fragment_cost (cycles_of power.costs)) (map (fragment_by power test l counted n told) ms) ≡ marks_cost power.costs ms
 marks_cost_is power test l counted n told [] = refl
 marks_cost_is power test l counted n told (m ∷ ms) =
     let one = one_cost power test l counted n told m in
@@ -60,7 +60,7 @@ marks_cost_is power test l counted n told (m ∷ ms) =
     omega (arith, one, rest, sum)
 
 -- what of a fragment lies behind its store
-one_tail : (power : PowerModel) (test : tables.EdgeNumbers → ℕ → ℕ → Bool) (l : Loops) (counted : List ℕ) (n : Numbers) (told : tables.EdgeNumbers) (m : Mark) → fragment_tail (cycles_of power.costs) (fragment_by power test l counted n told m) ≡ Rattle.scale_sites.specs.Weights.mark_tail power.costs m
+one_tail : (power : PowerModel) (test : EdgeNumbers → ℕ → ℕ → Bool) (l : Loops) (counted : List ℕ) (n : Numbers) (told : EdgeNumbers) (m : Mark) → fragment_tail (cycles_of power.costs) (fragment_by power test l counted n told m) ≡ Rattle.scale_sites.specs.Weights.mark_tail power.costs m
 one_tail power test l counted n told marks.Switch = refl
 one_tail power test l counted n told (marks.Exit i) = refl
 one_tail power test l counted n told (marks.Reset i) = refl
@@ -69,7 +69,7 @@ one_tail power test l counted n told marks.Lowest = refl
 one_tail power test l counted n told (marks.Tally i) = refl
 
 -- the cycles behind the store, where there are marks
-pub tail_is : (power : PowerModel) (test : tables.EdgeNumbers → ℕ → ℕ → Bool) (l : Loops) (counted : List ℕ) (n : Numbers) (told : tables.EdgeNumbers) (m : Mark) (ms : List Mark) → tail_cycles (cycles_of power.costs) (map (fragment_by power test l counted n told) (m ∷ ms)) ≡ tail_of power.costs (m ∷ ms)
+pub tail_is : (power : PowerModel) (test : EdgeNumbers → ℕ → ℕ → Bool) (l : Loops) (counted : List ℕ) (n : Numbers) (told : EdgeNumbers) (m : Mark) (ms : List Mark) → tail_cycles (cycles_of power.costs) (map (fragment_by power test l counted n told) (m ∷ ms)) ≡ tail_of power.costs (m ∷ ms)
 tail_is power test l counted n told m ms =
     let one = one_tail power test l counted n told m in
     let rest = marks_cost_is power test l counted n told ms in omega (arith, one, rest)
@@ -86,7 +86,7 @@ any_from (suc n) q k lt2 h = ⊎_elim
     (cases_lt k n)
 
 module _ (power : PowerModel) (image : Image) (notes : List LoopNote) (v : FlowGraph) (tree : LoopView) (wanted : Wanted) (stored : Numbers) (by_marks : IsWeighedWith power image notes v tree (marked_where v tree wanted) stored) (kinds_are : ChoosesSites v wanted.switch)
-    (test : tables.EdgeNumbers → ℕ → ℕ → Bool) (least : Charged) (sites : List Site) (are : AreSitesOf image v.code (fragments_with power test image v tree (marked_where v tree wanted) stored least) sites) where
+    (test : EdgeNumbers → ℕ → ℕ → Bool) (least : Charged) (sites : List Site) (are : AreSitesOf image v.code (fragments_with power test image v tree (marked_where v tree wanted) stored least) sites) where
   abbrev plain : Numbers
   plain = slack_plain power image notes v tree wanted stored by_marks kinds_are
 

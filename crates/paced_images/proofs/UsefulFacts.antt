@@ -10,7 +10,7 @@ use Rattle.scale_base.specs.declared.fragments.Mark.{Mark}
 use Rattle.scale_base.specs.declared.fragments.Mark.TheVariants as marks
 use Rattle.scale_sites.specs.Sites.{marks_at_edge}
 use Rattle.scale_sites.specs.Weights.{switches}
-use Rattle.level_tables.specs.Tables.{EdgeNumbers}
+use Rattle.level_tables.specs.declared.edge_numbers.EdgeNumbers.{EdgeNumbers}
 use Rattle.marked_images.proofs.Laws.{IsLoud, marking_switches}
 use Rattle.paced_images.specs.Useful.{is_site_mark, lowers_some}
 use Rattle.flow_graph.specs.FlowGraph.{FlowGraph}

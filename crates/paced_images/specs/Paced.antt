@@ -4,6 +4,7 @@
 -- It is a relation, as what `rewrite` gives. A site that names no edge of a branch or of a jump of the reached code, or one that leaves a counted loop or is a back edge of a
 -- tallied one, changes nothing; and nor does an address among `tallied` at which no loop has its header.
 use Rattle.std.specs.Prelude.{◌≡◌, ◌⊎◌, ℕ, ◌+◌, ◌-◌, ◌*◌, ◌/◌, ◌<◌, ◌≤◌, ◌==◌, nat_lt, Bool, List, Some, None, Result, Err, if◌then◌else◌}
+use Rattle.scale_base.specs.declared.limits.TheConstants.{CYCLE_LIMIT}
 use Rattle.scale_base.specs.declared.refusal.Refusal.{Refusal}
 use Rattle.scale_base.specs.declared.refusal.Refusal.TheVariants.{DeadlineMissed, TooLong}
 use Rattle.scale_base.specs.declared.summary.Summary.{Summary}
@@ -16,7 +17,7 @@ use Rattle.cost_theory.specs.Worst.{Numbers}
 use Rattle.cycle_laws.specs.Charged.{Charged}
 use Rattle.flow_graph.specs.FlowGraph.{FlowGraph}
 use Rattle.loop_forest.specs.Tree.{LoopView}
-use Rattle.level_tables.specs.Tables.{EdgeNumbers}
+use Rattle.level_tables.specs.declared.edge_numbers.EdgeNumbers.{EdgeNumbers}
 use Rattle.level_tables.specs.Budgets.{meets_in_budget}
 use Rattle.stub_writer.specs.Stubs.{Site, out_of_reach}
 use Rattle.rewritten_runs.specs.Stubs.{IsWeighedWith, HasStubsWith, rewritten_file}
@@ -53,7 +54,7 @@ pub record IsTooLong (power : PowerModel) (image : Image) (notes : List LoopNote
   pub tree : LoopView
   pub stored : Numbers
   pub weighed : IsWeighedWith power image notes code tree (marked_at code tree wanted tallied) stored
-  pub long : 281474976710656 < stored.worst 0
+  pub long : CYCLE_LIMIT < stored.worst 0
   pub answer_is : answer ≡ Err TooLong
 
 -- they are in range, and even at the fastest level too late
@@ -62,7 +63,7 @@ pub record IsTooLate (power : PowerModel) (image : Image) (notes : List LoopNote
   pub tree : LoopView
   pub stored : Numbers
   pub weighed : IsWeighedWith power image notes code tree (marked_at code tree wanted tallied) stored
-  pub short : stored.worst 0 ≤ 281474976710656
+  pub short : stored.worst 0 ≤ CYCLE_LIMIT
   pub late : slowest_of power (stored.worst 0) ≡ None
   pub answer_is : answer ≡ Err (DeadlineMissed (time_at power (fastest power) (stored.worst 0)) power.deadline)
 
@@ -77,7 +78,7 @@ pub record IsProgramPaced (power : PowerModel) (image : Image) (notes : List Loo
   pub base : ℕ
   pub start : ℕ
   pub weighed : IsWeighedWith power image notes code tree (marked_at code tree wanted tallied) stored
-  pub short : stored.worst 0 ≤ 281474976710656
+  pub short : stored.worst 0 ≤ CYCLE_LIMIT
   pub slow : slowest_of power (stored.worst 0) ≡ Some start
   pub stubs : HasStubsWith power (paced_test power start (stored.worst 0) share) image code tree (marked_at code tree wanted tallied)
       stored extra least sites base

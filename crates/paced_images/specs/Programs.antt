@@ -7,7 +7,7 @@ use Rattle.machine_file.specs.Machine.{read_machine}
 use Rattle.loop_file.specs.declared.notes.LoopNote.{LoopNote}
 use Rattle.loop_file.specs.Loops.{read_loops}
 use Rattle.answer_parts.specs.Parts.{unscaled}
-use Rattle.marked_images.specs.declared.scaling.Marked.{Marked}
+use Rattle.marked_images.specs.declared.stubs.Marked.{Marked}
 use Rattle.marked_images.specs.declared.scaling.Program.{Program}
 use Rattle.marked_images.specs.Scalings.{IsMarked, IsScaled}
 use Rattle.paced_images.specs.declared.wanted.SwitchSite.{SwitchSite}

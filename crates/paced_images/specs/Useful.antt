@@ -16,11 +16,12 @@ use Rattle.cost_theory.specs.Graph.{any_below}
 use Rattle.cost_theory.specs.Worst.{Numbers}
 use Rattle.cycle_laws.specs.Charged.{Charged, AreCharged}
 use Rattle.flow_graph.specs.FlowGraph.{FlowGraph, graph}
-use Rattle.level_tables.specs.Tables.{EdgeNumbers, entry_by, goes_lowest, tally_from, tally_shift}
+use Rattle.level_tables.specs.Tables.{entry_by, goes_lowest, tally_from, tally_shift}
+use Rattle.level_tables.specs.declared.edge_numbers.EdgeNumbers.{EdgeNumbers}
 use Rattle.loop_forest.specs.Tree.{LoopView, loops}
 use Rattle.rewritten_runs.specs.Stubs.{IsWeighedWith, loop_of, stored_weights, told_at}
 use Rattle.scale_sites.specs.Counters.{counted_loops}
-use Rattle.marked_images.specs.declared.scaling.Marked.{Marked}
+use Rattle.marked_images.specs.declared.stubs.Marked.{Marked}
 use Rattle.paced_images.specs.declared.wanted.SwitchSite.{SwitchSite}
 use Rattle.marked_images.specs.Markings.{Whichever, test_of}
 use Rattle.paced_images.specs.Paced.{IsPaced, paced_test}

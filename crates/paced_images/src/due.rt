@@ -1,17 +1,16 @@
 //! The loops whose tallies are of use.
 
 ghost use Rattle.std.specs.Prelude.{◌≡◌, ◌==◌, ◌<◌, ◌^◌, ℕ, Bool, length, slice_get, Some, IfOk, IfSome};
-ghost use Rattle.level_tables.specs.Budgets.{meets_in_budget, budget_at};
 ghost use Rattle.loop_forest.specs.Tree.{IsLoopTree, loops};
 ghost use Rattle.scale_base.specs.declared.fragments.Mark.TheVariants as marks;
 ghost use Rattle.scale_sites.specs.Sites.{marks_at_edge};
-ghost use Rattle.marked_images.specs.Markings.{HasMarking, told_view};
+ghost use Rattle.marked_images.specs.Markings.{HasMarking, test_of};
 ghost use Rattle.paced_images.specs.Useful as useful;
 
 use flow_graph::CodeGraph;
-use level_tables::{LevelBudgets, tally_from_within, tally_shift};
+use level_tables::{EdgeNumbers, tally_from_within, tally_shift};
 use loop_forest::LoopTree;
-use marked_images::{Marked, Told, told_at};
+use marked_images::{Marked, told_at};
 use power_model::Power;
 use scale_base::{Mark, NoMemory};
 use std::alloc::Global;
@@ -27,22 +26,12 @@ fn is_header(graph: &CodeGraph, tree: &LoopTree, l: usize, header: u32) -> bool
 
 /// Whether a tally with these numbers comes due: from a count that the loop's bound allows on, every level goes to the lowest one, which the
 /// starting level isn't.
-fn comes_due(
-    power: &Power,
-    budgets: &LevelBudgets,
-    start: u8,
-    bound: u32,
-    iteration: u64,
-    told: &Told,
-) -> bool
+fn comes_due(power: &Power, marked: &Marked, bound: u32, iteration: u64, told: &EdgeNumbers) -> bool
     requires { IfSome told.now.least (λ z. z < 2 ^ 90) }
-    ensures { result ≡ useful.comes_due power.now (meets_in_budget power.now (budget_at budgets.now)) start bound iteration
-        (told_view told.now) }
+    ensures { result ≡ useful.comes_due power.now (test_of power.now marked.now.marking) marked.now.start bound iteration told.now }
 {
-    let from = tally_from_within(
-        power, budgets, bound, iteration, told.slack, told.left, told.least,
-    );
-    start > 0 && u32::from(from) <= bound >> tally_shift(bound)
+    let from = tally_from_within(power, &marked.marking.budgets, bound, iteration, told);
+    marked.start > 0 && u32::from(from) <= bound >> tally_shift(bound)
 }
 
 /// Whether a tally on edge `e` is that of the loop at an address, and comes due.
@@ -58,15 +47,8 @@ fn is_due(power: &Power, marked: &Marked, header: u32, e: usize, counter: u16) -
     let l = *marking.counters.get(usize::from(counter - 2));
     let bound = tree.bound(l);
     let iteration = marking.worst.iteration(l);
-    let told = told_at(power, graph, tree, marking, e);
-    let due = comes_due(
-        power,
-        &marking.budgets,
-        marked.start,
-        bound,
-        iteration,
-        &told,
-    );
+    let told = told_at(power, marked, e);
+    let due = comes_due(power, marked, bound, iteration, &told);
     is_header(graph, tree, l, header) && due
 }
 

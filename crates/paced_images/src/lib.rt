@@ -18,4 +18,4 @@ pub use programs::program_of;
 pub use proposal::Proposal;
 pub use proposed::pace_useful;
 pub use useful::{KeptMarks, useful_marks};
-pub use wanted::SwitchSite;
+pub use wanted::{ChosenMarks, SwitchSite};

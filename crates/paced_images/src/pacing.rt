@@ -6,9 +6,9 @@ ghost use Rattle.marked_images.specs.Promise.{IsStoredSafely};
 ghost use Rattle.paced_images.specs.Paced.{IsPaced};
 
 use crate::programs::program_of;
-use crate::wanted::SwitchSite;
+use crate::wanted::ChosenMarks;
 use marked_images::stored_file;
-use scale_base::{Stop, Summary};
+use scale_base::{FILE_LIMIT, IMAGE_LIMIT, Stop, Summary};
 use std::alloc::Global;
 
 /// The image with its stubs, or the first refusal.
@@ -17,17 +17,13 @@ fn pace_files(
     image: &[u8],
     machine: &[u8],
     loops: &[u8],
-    sites: &[SwitchSite],
-    counted: bool,
-    tallied: &[u32],
-    share: u8,
+    marks: &ChosenMarks<'_>,
 ) -> Result<(Vec<u8>, Summary), Stop>
-    requires image { length image.now ≤ 4194304 }
-    requires share { share ≤ 4 }
-    ensures { AnswersBy (λ given. (given.0.items, given.1)) result (IsPaced image.now machine.now loops.now sites.now counted tallied.now
-        share) }
+    requires image { length image.now ≤ IMAGE_LIMIT }
+    ensures { AnswersBy (λ given. (given.0.items, given.1)) result (IsPaced image.now machine.now loops.now marks.now.sites.now
+        marks.now.counted marks.now.tallied.now marks.now.share) }
 {
-    let program = program_of(alloc, image, machine, loops, sites, counted, tallied, share)?;
+    let program = program_of(alloc, image, machine, loops, marks)?;
     let bytes = stored_file(alloc, &program.view, &program.scaling)?;
     Ok((bytes, program.scaling.summary))
 }
@@ -55,20 +51,16 @@ pub fn pace(
     image: &[u8],
     machine: &[u8],
     loops: &[u8],
-    sites: &[SwitchSite],
-    counted: bool,
-    tallied: &[u32],
-    share: u8,
+    marks: &ChosenMarks<'_>,
 ) -> Result<(Vec<u8>, Summary), Stop>
-    requires image { length image.now ≤ 4194304 }
-    requires machine { length machine.now ≤ 1048576 }
-    requires loops { length loops.now ≤ 1048576 }
-    requires share { share ≤ 4 }
-    ensures given { AnswersBy (λ given. (given.0.items, given.1)) result (IsPaced image.now machine.now loops.now sites.now counted
-        tallied.now share) }
+    requires image { length image.now ≤ IMAGE_LIMIT }
+    requires machine { length machine.now ≤ FILE_LIMIT }
+    requires loops { length loops.now ≤ FILE_LIMIT }
+    ensures given { AnswersBy (λ given. (given.0.items, given.1)) result (IsPaced image.now machine.now loops.now marks.now.sites.now
+        marks.now.counted marks.now.tallied.now marks.now.share) }
 
     // On each input on which the original run exits and is kept, by the files' own notes, the stored run keeps the promise.
     ensures safe { IfOk result (λ given. IsStoredSafely image.now machine.now loops.now given.0.items given.1) }
 {
-    pace_files(alloc, image, machine, loops, sites, counted, tallied, share)
+    pace_files(alloc, image, machine, loops, marks)
 }

@@ -1,12 +1,11 @@
 //! The program of three files, with switches on the edges that sites name, and with tallied loops.
 
-ghost use Rattle.std.specs.Prelude.{◌≤◌};
 ghost use Rattle.scale_base.specs.Answer.{AnswersBy};
 ghost use Rattle.paced_images.specs.Programs.{IsProgramFound};
 
 use crate::marks::marked_of;
 use crate::noted::notes_by;
-use crate::wanted::SwitchSite;
+use crate::wanted::ChosenMarks;
 use marked_images::{Program, scaling_of};
 use program_sources::Sources;
 use scale_base::Stop;
@@ -18,19 +17,16 @@ pub fn program_of<'a>(
     image: &'a [u8],
     machine: &[u8],
     loops: &[u8],
-    sites: &[SwitchSite],
-    counted: bool,
-    tallied: &[u32],
-    share: u8,
+    marks: &ChosenMarks<'_>,
 ) -> Result<Program<'a>, Stop>
-    requires { share ≤ 4 }
-    ensures { AnswersBy (λ p. p) result (IsProgramFound image.now machine.now loops.now sites.now counted tallied.now share) }
+    ensures { AnswersBy (λ p. p) result (IsProgramFound image.now machine.now loops.now marks.now.sites.now
+        marks.now.counted marks.now.tallied.now marks.now.share) }
 {
     let sources = Sources::read(alloc, image, machine, loops)?;
     let power = sources.power;
     let view = sources.view;
-    let notes = notes_by(alloc, &sources.notes, counted, tallied)?;
-    let marked = marked_of(alloc, &view, &power, &notes, sites, tallied, share)?;
+    let notes = notes_by(alloc, &sources.notes, marks.counted, marks.tallied)?;
+    let marked = marked_of(alloc, &view, &power, &notes, marks)?;
     let scaling = scaling_of(alloc, &view, &power, &marked)?;
     Ok(Program {
         power,

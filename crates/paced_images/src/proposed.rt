@@ -9,7 +9,7 @@ use crate::programs::program_of;
 use crate::proposal::Proposal;
 use crate::useful::{KeptMarks, kept_marks};
 use marked_images::stored_file;
-use scale_base::{Stop, Summary};
+use scale_base::{FILE_LIMIT, IMAGE_LIMIT, Stop, Summary};
 use std::alloc::Global;
 
 /// Whether as many marks are of use as a proposal has.
@@ -28,21 +28,13 @@ fn pace_all(
     loops: &[u8],
     proposal: &Proposal,
 ) -> Result<Option<(Vec<u8>, Summary)>, Stop>
-    requires { length image.now ≤ 4194304 }
+    requires { length image.now ≤ IMAGE_LIMIT }
     ensures { AnswersBy (option_map (λ given. (given.0.items, given.1))) result
         (IsProposalPaced image.now machine.now loops.now proposal.now) }
 {
-    let program = program_of(
-        alloc,
-        image,
-        machine,
-        loops,
-        &proposal.sites,
-        proposal.counted,
-        &proposal.tallied,
-        proposal.share,
-    )?;
-    let kept = kept_marks(alloc, &program, &proposal.sites, &proposal.tallied)?;
+    let marks = proposal.marks();
+    let program = program_of(alloc, image, machine, loops, &marks)?;
+    let kept = kept_marks(alloc, &program, marks.sites, marks.tallied)?;
     if !are_all(&kept, proposal) {
         return Ok(None);
     }
@@ -63,9 +55,9 @@ pub fn pace_useful(
     loops: &[u8],
     proposal: &Proposal,
 ) -> Result<Option<(Vec<u8>, Summary)>, Stop>
-    requires image { length image.now ≤ 4194304 }
-    requires machine { length machine.now ≤ 1048576 }
-    requires loops { length loops.now ≤ 1048576 }
+    requires image { length image.now ≤ IMAGE_LIMIT }
+    requires machine { length machine.now ≤ FILE_LIMIT }
+    requires loops { length loops.now ≤ FILE_LIMIT }
     ensures given { AnswersBy (option_map (λ given. (given.0.items, given.1))) result
         (IsProposalPaced image.now machine.now loops.now proposal.now) }
 

@@ -6,22 +6,22 @@ ghost use Rattle.scale_base.specs.Answer.{AnswersBy};
 ghost use Rattle.level_tables.specs.Budgets.{meets_in_budget, budget_at};
 ghost use Rattle.level_tables.specs.Tables.{entry_by};
 ghost use Rattle.scale_sites.specs.Weights.{switches};
-ghost use Rattle.marked_images.specs.Markings.{HasMarking, told_view};
+ghost use Rattle.marked_images.specs.Markings.{HasMarking};
 ghost use Rattle.paced_images.specs.Useful as useful;
 
 use crate::due::kept_loops;
 use crate::programs::program_of;
-use crate::wanted::{SwitchSite, edges_at, names};
-use level_tables::{LevelBudgets, entry_within, lowest_within};
-use marked_images::{Marked, Program, Told, told_at};
+use crate::wanted::{ChosenMarks, SwitchSite, edges_at, names};
+use level_tables::{EdgeNumbers, LevelBudgets};
+use marked_images::{Marked, Program, told_at};
 use power_model::Power;
-use scale_base::{Mark, NoMemory, Stop};
+use scale_base::{FILE_LIMIT, IMAGE_LIMIT, Mark, NoMemory, Stop};
 use std::alloc::Global;
 
 /// Whether there is a mark that a site gave its edge, and that stores a level.
-fn has_site_mark(power: &Power, budgets: &LevelBudgets, told: &Told, marks: &[Mark]) -> bool
+fn has_site_mark(power: &Power, budgets: &LevelBudgets, told: &EdgeNumbers, marks: &[Mark]) -> bool
     requires { IfSome told.now.least (λ z. z < 2 ^ 90) }
-    ensures { result ≡ list_any (useful.is_site_mark power.now (meets_in_budget power.now (budget_at budgets.now)) (told_view told.now))
+    ensures { result ≡ list_any (useful.is_site_mark power.now (meets_in_budget power.now (budget_at budgets.now)) told.now)
         marks.now }
 {
     let Some((first, rest)) = marks.split_first() else {
@@ -31,13 +31,13 @@ fn has_site_mark(power: &Power, budgets: &LevelBudgets, told: &Told, marks: &[Ma
 }
 
 /// Whether a mark is one.
-fn is_site_mark(power: &Power, budgets: &LevelBudgets, told: &Told, mark: Mark) -> bool
+fn is_site_mark(power: &Power, budgets: &LevelBudgets, told: &EdgeNumbers, mark: Mark) -> bool
     requires { IfSome told.now.least (λ z. z < 2 ^ 90) }
-    ensures { result ≡ useful.is_site_mark power.now (meets_in_budget power.now (budget_at budgets.now)) (told_view told.now) mark }
+    ensures { result ≡ useful.is_site_mark power.now (meets_in_budget power.now (budget_at budgets.now)) told.now mark }
 {
     match mark {
         Mark::Switch => true,
-        Mark::Lowest => lowest_within(power, budgets, told.slack, told.left, told.least),
+        Mark::Lowest => told.lowest_within(power, budgets),
         Mark::Exit(_) => false,
         Mark::Reset(_) => false,
         Mark::Count(_) => false,
@@ -63,18 +63,18 @@ fn stores_first(marks: &[Mark]) -> bool
 }
 
 /// Whether a switch goes to a lower level from level `i`, and that is at most the starting one.
-fn lowers_from(power: &Power, budgets: &LevelBudgets, start: u8, told: &Told, i: u8) -> bool
+fn lowers_from(power: &Power, budgets: &LevelBudgets, start: u8, told: &EdgeNumbers, i: u8) -> bool
     requires level { i < length power.now.levels }
     requires least { IfSome told.now.least (λ z. z < 2 ^ 90) }
-    ensures { result ≡ (nat_le i start && nat_lt (entry_by (meets_in_budget power.now (budget_at budgets.now)) (told_view told.now) i) i) }
+    ensures { result ≡ (nat_le i start && nat_lt (entry_by (meets_in_budget power.now (budget_at budgets.now)) told.now i) i) }
 {
-    i <= start && entry_within(power, budgets, i, told.slack, told.left, told.least) < i
+    i <= start && told.entry_within(power, budgets, i) < i
 }
 
 /// Whether it does so from some level.
-fn lowers_some(power: &Power, budgets: &LevelBudgets, start: u8, told: &Told) -> bool
+fn lowers_some(power: &Power, budgets: &LevelBudgets, start: u8, told: &EdgeNumbers) -> bool
     requires { IfSome told.now.least (λ z. z < 2 ^ 90) }
-    ensures { result ≡ useful.lowers_some power.now (meets_in_budget power.now (budget_at budgets.now)) start (told_view told.now) }
+    ensures { result ≡ useful.lowers_some power.now (meets_in_budget power.now (budget_at budgets.now)) start told.now }
 {
     for i in 0..power.levels.count() {
         if lowers_from(power, budgets, start, told, i) {
@@ -95,7 +95,7 @@ fn is_lowered(power: &Power, marked: &Marked, e: usize) -> bool
     if !stores_first(marks) {
         return false;
     }
-    let told = told_at(power, &marked.graph, &marked.tree, marking, e);
+    let told = told_at(power, marked, e);
     has_site_mark(power, &marking.budgets, &told, marks)
         && lowers_some(power, &marking.budgets, marked.start, &told)
 }
@@ -182,18 +182,14 @@ pub fn useful_marks(
     image: &[u8],
     machine: &[u8],
     loops: &[u8],
-    sites: &[SwitchSite],
-    counted: bool,
-    tallied: &[u32],
-    share: u8,
+    marks: &ChosenMarks<'_>,
 ) -> Result<KeptMarks, Stop>
-    requires image { length image.now ≤ 4194304 }
-    requires machine { length machine.now ≤ 1048576 }
-    requires loops { length loops.now ≤ 1048576 }
-    requires share { share ≤ 4 }
+    requires image { length image.now ≤ IMAGE_LIMIT }
+    requires machine { length machine.now ≤ FILE_LIMIT }
+    requires loops { length loops.now ≤ FILE_LIMIT }
     ensures { AnswersBy (λ kept. (kept.sites.items, kept.tallied.items)) result
-        (useful.AreUseful image.now machine.now loops.now sites.now counted tallied.now share) }
+        (useful.AreUseful image.now machine.now loops.now marks.now.sites.now marks.now.counted marks.now.tallied.now marks.now.share) }
 {
-    let program = program_of(alloc, image, machine, loops, sites, counted, tallied, share)?;
-    Ok(kept_marks(alloc, &program, sites, tallied)?)
+    let program = program_of(alloc, image, machine, loops, marks)?;
+    Ok(kept_marks(alloc, &program, marks.sites, marks.tallied)?)
 }

@@ -24,6 +24,17 @@ pub struct SwitchSite {
     pub lowest: bool,
 }
 
+/// The marks that are chosen for a program: the edges with a switch, whether the noted loops are counted, the addresses of the headers of loops that are
+/// tallied, and the share of the lent time that levels between the starting and the lowest one get, in quarters.
+#[derive(Clone, Copy)]
+pub struct ChosenMarks<'a> {
+    pub sites: &'a [SwitchSite],
+    pub counted: bool,
+    pub tallied: &'a [u32],
+    pub share: u8,
+    ghost quarters: { share ≤ 4 },
+}
+
 /// Whether two kinds are the same one of a branch's two, or both a jump's.
 fn same_kind(one: EdgeKind, other: EdgeKind) -> bool
     ensures { result ≡ same_kind one other }

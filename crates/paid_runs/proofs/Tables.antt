@@ -18,7 +18,8 @@ use Rattle.code_text.specs.Text.{Text}
 use Rattle.stub_writer.specs.Stubs.{Site}
 use Rattle.cycle_laws.specs.Charged.{Charged, to_end_after}
 use Rattle.code_text.specs.TextGraph.{text_graph}
-use Rattle.level_tables.specs.Tables.{EdgeNumbers, pays, trips_left, at_row, behind_turns, meets_both}
+use Rattle.level_tables.specs.Tables.{pays, trips_left, at_row, behind_turns, meets_both}
+use Rattle.level_tables.specs.declared.edge_numbers.EdgeNumbers.{EdgeNumbers}
 use Rattle.level_tables.specs.Budgets.{is_switch_in_budget, meets_in_budget}
 use Rattle.level_tables.proofs.Laws.{both_in_budget, trips_left-le}
 use Rattle.stored_runs.specs.Meaning.{four_bits, is_due}

@@ -13,7 +13,8 @@ use Rattle.cycle_laws.specs.Charged.{Charged, to_end_after}
 use Rattle.code_text.specs.Text.{Text}
 use Rattle.code_text.specs.EdgeCosts.{edge_class}
 use Rattle.code_text.specs.TextGraph.{text_graph}
-use Rattle.level_tables.specs.Tables.{EdgeNumbers, meets_both, at_row, behind_turns}
+use Rattle.level_tables.specs.Tables.{meets_both, at_row, behind_turns}
+use Rattle.level_tables.specs.declared.edge_numbers.EdgeNumbers.{EdgeNumbers}
 use Rattle.stub_writer.specs.Stubs.{Site}
 use Rattle.stored_runs.specs.Meaning.{four_bits, is_due}
 use Rattle.stored_runs.specs.Marks.{place_at, fragments_of_class, tail_cycles}

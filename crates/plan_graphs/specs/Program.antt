@@ -1,5 +1,6 @@
 -- The drawn graph of a program: what the bytes of an image, of a machine file and of a loop file give.
 use Rattle.std.specs.Prelude.{◌≡◌, ℕ, ◌^◌, ◌<◌, ◌≤◌, Bool, true, false, List, [], length, slice_get, Option, Some, None, Result, Ok, Err}
+use Rattle.scale_base.specs.declared.limits.TheConstants.{CYCLE_LIMIT}
 use Rattle.scale_base.specs.declared.refusal.Refusal.{Refusal}
 use Rattle.scale_base.specs.Image.{Image, image_of}
 use Rattle.scale_base.specs.declared.fragments.Mark.{Mark}
@@ -46,7 +47,7 @@ pub record IsProgramDrawn (power : PowerModel) (image : Image) (notes : List Loo
   pub code_is : IsGraphOf (text_of image) code
   pub tree_is : IsTreeOf code notes tree
   pub numbers_are : AreNumbers (graph code) (loops code tree) (plain_weights power image code) told.numbers
-  pub short : told.numbers.worst 0 ≤ 2 ^ 48
+  pub short : told.numbers.worst 0 ≤ CYCLE_LIMIT
   pub in_time : (start : ℕ) × (slowest_of power (told.numbers.worst 0) ≡ Some start)
   pub worst : plan.worst ≡ told.numbers.worst 0
   pub marks_are : AreMarksDrawn power image code tree told.numbers plan.countable told.marks

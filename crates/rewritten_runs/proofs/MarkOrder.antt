@@ -6,7 +6,7 @@ use Rattle.cost_theory.specs.Graph.{Graph, Loops, leaves, goes_back}
 use Rattle.cost_theory.specs.Accepted.{IsProgram, AreAccepted}
 use Rattle.cost_theory.specs.Worst.{Numbers}
 use Rattle.power_model.specs.Numbers.{PowerModel}
-use Rattle.level_tables.specs.Tables as tables
+use Rattle.level_tables.specs.declared.edge_numbers.EdgeNumbers.{EdgeNumbers}
 use Rattle.scale_base.specs.declared.fragments.Mark.{Mark}
 use Rattle.scale_base.specs.declared.fragments.Mark.TheVariants as marks
 use Rattle.scale_sites.specs.Counters.{set_from}
@@ -44,7 +44,7 @@ IsQuietMark (marks.Count c) = Unit {0}
 IsQuietMark marks.Lowest = ⊥
 IsQuietMark (marks.Tally c) = ⊥
 
-quiet_fragment : (power : PowerModel) (test : tables.EdgeNumbers → ℕ → ℕ → Bool) (l : Loops) (counted : List ℕ) (n : Numbers) (told : tables.EdgeNumbers) (m : Mark) → IsQuietMark m → IsQuiet (fragment_by power test l counted n told m)
+quiet_fragment : (power : PowerModel) (test : EdgeNumbers → ℕ → ℕ → Bool) (l : Loops) (counted : List ℕ) (n : Numbers) (told : EdgeNumbers) (m : Mark) → IsQuietMark m → IsQuiet (fragment_by power test l counted n told m)
 quiet_fragment power test l counted n told marks.Switch h = absurd h
 quiet_fragment power test l counted n told (marks.Exit c) h = absurd h
 quiet_fragment power test l counted n told (marks.Reset c) h = tt
@@ -52,16 +52,16 @@ quiet_fragment power test l counted n told (marks.Count c) h = tt
 quiet_fragment power test l counted n told marks.Lowest h = absurd h
 quiet_fragment power test l counted n told (marks.Tally c) h = absurd h
 
-all_quiet : (power : PowerModel) (test : tables.EdgeNumbers → ℕ → ℕ → Bool) (l : Loops) (counted : List ℕ) (n : Numbers) (told : tables.EdgeNumbers) (ms : List Mark) → All IsQuietMark ms → All IsQuiet (map (fragment_by power test l counted n told) ms)
+all_quiet : (power : PowerModel) (test : EdgeNumbers → ℕ → ℕ → Bool) (l : Loops) (counted : List ℕ) (n : Numbers) (told : EdgeNumbers) (ms : List Mark) → All IsQuietMark ms → All IsQuiet (map (fragment_by power test l counted n told) ms)
 all_quiet power test l counted n told ms h = All-map IsQuiet (fragment_by power test l counted n told) ms (λ k d lt. quiet_fragment power test l counted n told _ (h k d lt))
 
-ordered_by : (power : PowerModel) (test : tables.EdgeNumbers → ℕ → ℕ → Bool) (l : Loops) (counted : List ℕ) (n : Numbers) (told : tables.EdgeNumbers) (first rest : List Mark) → length first ≤ 1 → All IsQuietMark rest → AreOrdered (map (fragment_by power test l counted n told) (first ++ rest))
+ordered_by : (power : PowerModel) (test : EdgeNumbers → ℕ → ℕ → Bool) (l : Loops) (counted : List ℕ) (n : Numbers) (told : EdgeNumbers) (first rest : List Mark) → length first ≤ 1 → All IsQuietMark rest → AreOrdered (map (fragment_by power test l counted n told) (first ++ rest))
 ordered_by power test l counted n told [] [] few h = tt
 ordered_by power test l counted n told [] (m ∷ rest) few h = all_quiet power test l counted n told rest (λ k d lt. h (suc k) d (omega arith))
 ordered_by power test l counted n told (m ∷ []) rest few h = all_quiet power test l counted n told rest h
 ordered_by power test l counted n told (m ∷ q ∷ first) rest few h = let bad : ⊥ = omega arith in absurd bad
 
-pub marks_ordered : (power : PowerModel) (test : tables.EdgeNumbers → ℕ → ℕ → Bool) (g : Graph) (l : Loops) (extent : ℕ → ℕ → Bool) (counted : List ℕ) (n : Numbers) (told : tables.EdgeNumbers) → IsProgram g → AreAccepted g l extent → AreLoopsOnce l counted → AreDistinctLoops counted
+pub marks_ordered : (power : PowerModel) (test : EdgeNumbers → ℕ → ℕ → Bool) (g : Graph) (l : Loops) (extent : ℕ → ℕ → Bool) (counted : List ℕ) (n : Numbers) (told : EdgeNumbers) → IsProgram g → AreAccepted g l extent → AreLoopsOnce l counted → AreDistinctLoops counted
     → (e : ℕ) (branch : Bool) (slack min_gain : ℕ) → e < g.edges → AreOrdered (map (fragment_by power test l counted n told) (marks_at l counted branch slack min_gain (g.source e) (g.target e)))
 marks_ordered power test g l extent counted n told prog acc are distinct e branch slack min_gain lt =
     let u = g.source e in

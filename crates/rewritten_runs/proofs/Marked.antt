@@ -28,7 +28,7 @@ use Rattle.scale_base.specs.declared.fragments.Mark.TheVariants as marks
 use Rattle.scale_sites.specs.Counters.{counted_loops, edge_goes_on, IsUncountable}
 use Rattle.scale_sites.specs.Marks.{first_counter, leaves_any, holds_left, is_outermost, mark_if, switch_of, exits_from, resets_from, counts_from, marks_at}
 use Rattle.scale_sites.specs.Sites.{is_branch}
-use Rattle.level_tables.specs.Tables as tables
+use Rattle.level_tables.specs.declared.edge_numbers.EdgeNumbers.{EdgeNumbers}
 use Rattle.stub_writer.specs.Fragments.{IsShadow}
 use Rattle.stub_writer.specs.Stubs.{Site}
 use Rattle.stored_runs.specs.Marks.{place_at, fragments_of_class, counters_after, counters_behind}
@@ -42,7 +42,7 @@ use Rattle.rewritten_runs.proofs.MarkLists.{set_at, at_set, effect, through, mar
 
 -- ---- fragments act as their marks do
 
-acts : (power : PowerModel) (test : tables.EdgeNumbers → ℕ → ℕ → Bool) (l : Loops) (counted : List ℕ) (n : Numbers) (told : tables.EdgeNumbers) (m : Mark) (c : ℕ → ℕ) (w : ℕ) → counters_after (fragment_by power test l counted n told m) c w ≡ effect m w (c w)
+acts : (power : PowerModel) (test : EdgeNumbers → ℕ → ℕ → Bool) (l : Loops) (counted : List ℕ) (n : Numbers) (told : EdgeNumbers) (m : Mark) (c : ℕ → ℕ) (w : ℕ) → counters_after (fragment_by power test l counted n told m) c w ≡ effect m w (c w)
 acts power test l counted n told marks.Switch c w = refl
 acts power test l counted n told (marks.Exit i) c w = refl
 acts power test l counted n told (marks.Reset i) c w = refl
@@ -50,7 +50,7 @@ acts power test l counted n told (marks.Count i) c w = refl
 acts power test l counted n told marks.Lowest c w = refl
 acts power test l counted n told (marks.Tally i) c w = refl
 
-pub all_act : (power : PowerModel) (test : tables.EdgeNumbers → ℕ → ℕ → Bool) (l : Loops) (counted : List ℕ) (n : Numbers) (told : tables.EdgeNumbers) (ms : List Mark) (c : ℕ → ℕ) (w : ℕ) → counters_behind (map (fragment_by power test l counted n told) ms) c w ≡ through w ms (c w)
+pub all_act : (power : PowerModel) (test : EdgeNumbers → ℕ → ℕ → Bool) (l : Loops) (counted : List ℕ) (n : Numbers) (told : EdgeNumbers) (ms : List Mark) (c : ℕ → ℕ) (w : ℕ) → counters_behind (map (fragment_by power test l counted n told) ms) c w ≡ through w ms (c w)
 all_act power test l counted n told [] c w = refl
 all_act power test l counted n told (m ∷ ms) c w = all_act power test l counted n told ms (counters_after (fragment_by power test l counted n told m) c) w ∙ ap (through w ms) (acts power test l counted n told m c w)
 

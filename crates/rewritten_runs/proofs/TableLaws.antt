@@ -9,7 +9,8 @@ use Rattle.std.proofs.lemmas.List.Elements.{All-map}
 use Rattle.std.proofs.lemmas.List.FromFn.{length-map-range_with_len}
 use Rattle.power_model.specs.Numbers.{PowerModel}
 use Rattle.level_tables.specs.Search.{least_below}
-use Rattle.level_tables.specs.Tables.{EdgeNumbers, meets_both, entry_by, nibble, word_by, shift_of, trips_left, at_row, row_by, all_rows_by, rows_of, behind_turns, goes_lowest, tally_shift, tally_from}
+use Rattle.level_tables.specs.Tables.{meets_both, entry_by, nibble, word_by, shift_of, trips_left, at_row, row_by, all_rows_by, rows_of, behind_turns, goes_lowest, tally_shift, tally_from}
+use Rattle.level_tables.specs.declared.edge_numbers.EdgeNumbers.{EdgeNumbers}
 use Rattle.level_tables.proofs.Laws.{IsFound, least-is, nibbles-fit, entry-least, entries-low, word_by-at, row_by-at, trips_left-le}
 use Rattle.stored_runs.specs.Stubbed.{IsTable}
 

@@ -24,6 +24,7 @@ use Rattle.scale_sites.specs.Counters.{counted_loops, edge_goes_on}
 use Rattle.scale_sites.specs.Sites.{is_branch, edge_branches}
 use Rattle.scale_sites.specs.Weights.{tail_of}
 use Rattle.level_tables.specs.Tables as tables
+use Rattle.level_tables.specs.declared.edge_numbers.EdgeNumbers.{EdgeNumbers}
 use Rattle.stub_writer.specs.Stubs.{Site}
 use Rattle.stored_runs.specs.Marks.{Shadow, tail_cycles, level_stored}
 use Rattle.power_model.specs.Switches.{period, energy, costs_of}
@@ -81,7 +82,7 @@ module _ {rule : Rule} (power : PowerModel) (ok : IsPowerModel power) (image : I
   abbrev w : ℕ → ℕ
   w = weights_of power (text_of image) v.code sites
 
-  abbrev told : ℕ → tables.EdgeNumbers
+  abbrev told : ℕ → EdgeNumbers
   told e = told_at power image v tree marked stored least e
 
   -- an edge with a switch or an exit in front is no call
@@ -155,7 +156,7 @@ module _ {rule : Rule} (power : PowerModel) (ok : IsPowerModel power) (image : I
         paying = (paid.z, to_end ∙ paid.is, subst (λ x. switch_energy power i j ≤ (paid.z + x) * (energy power i - energy power j)) (sym tail) paid.pays);
       }
 
-  no_more : (told : tables.EdgeNumbers) → record told { slack = told.slack + 0 } ≡ told
+  no_more : (told : EdgeNumbers) → record told { slack = told.slack + 0 } ≡ told
   no_more told = let z : told.slack + 0 ≡ told.slack = omega arith in ap (λ x. record told { slack = x }) z
 
   -- what is left of a loop that an edge leaves

@@ -1,5 +1,6 @@
 -- Scaffold: the law of rewritten images, as a statement for the contract of a function.
 use Rattle.std.specs.Prelude.{◌≡◌, ℕ, ◌<◌, ◌≤◌, Bool, true, List, length, Some, None, Ok}
+use Rattle.scale_base.specs.declared.limits.TheConstants.{CYCLE_LIMIT, IMAGE_LIMIT}
 use Rattle.scale_base.specs.declared.ranges.Keyed.{Keyed}
 use Rattle.scale_base.specs.Image.{Image, image_of}
 use Rattle.power_model.specs.Numbers.{PowerModel, IsPowerModel}
@@ -10,7 +11,7 @@ use Rattle.cycle_laws.specs.Charged.{Charged}
 use Rattle.flow_graph.specs.FlowGraph.{FlowGraph}
 use Rattle.loop_forest.specs.Tree.{LoopView}
 use Rattle.stub_writer.specs.Stubs.{Site, out_of_reach}
-use Rattle.level_tables.specs.Tables.{EdgeNumbers}
+use Rattle.level_tables.specs.declared.edge_numbers.EdgeNumbers.{EdgeNumbers}
 use Rattle.level_tables.specs.Budgets.{AreBudgets, meets_in_budget}
 use Rattle.rewritten_runs.specs.Stubs.{Rule, by_slack, by_choice, IsWeighedBy, IsWeighed, HasStubsBy, HasStubs, rewritten_file, stored_weights, marks_by}
 use Rattle.rewritten_runs.specs.Promise.{KeepsThePromise}
@@ -37,8 +38,8 @@ IsSafelyRewritten power image notes v t plain stored bound start file = IsSafely
 abbrev pub RewrittenImagesFollow : Type 0
 RewrittenImagesFollow = (power : PowerModel) → IsPowerModel power → (file : List ℕ) (image : Image) (notes : List LoopNote) (v : FlowGraph)
     (t : LoopView) (plain stored extra : Numbers) (least : Charged) (sites : List Site) (base start : ℕ)
-    → image_of file ≡ Ok image → image.keyed_segment ≡ None → length file ≤ 4194304 → IsWeighed power image notes v t plain stored →
-    stored.worst 0 ≤ 281474976710656 → slowest_of power (stored.worst 0) ≡ Some start
+    → image_of file ≡ Ok image → image.keyed_segment ≡ None → length file ≤ IMAGE_LIMIT → IsWeighed power image notes v t plain stored →
+    stored.worst 0 ≤ CYCLE_LIMIT → slowest_of power (stored.worst 0) ≡ Some start
     → HasStubs power image v t plain stored extra least sites base → out_of_reach base sites ≡ None
     → IsSafelyRewritten power image notes v t plain stored (extra.worst 0) start (rewritten_file image sites base start)
 
@@ -51,7 +52,7 @@ abbrev pub BudgetedImagesFollow : Type 0
 BudgetedImagesFollow = (power : PowerModel) → IsPowerModel power → (budget : ℕ → ℕ) (rule : Rule) → KeepsBudgets power budget rule →
     (file : List ℕ) (image : Image) (notes : List LoopNote) (v : FlowGraph) (t : LoopView) (plain stored extra : Numbers) (least : Charged)
     (sites : List Site) (base start : ℕ)
-    → image_of file ≡ Ok image → image.keyed_segment ≡ None → length file ≤ 4194304 → IsWeighedBy power image notes v t rule plain stored →
+    → image_of file ≡ Ok image → image.keyed_segment ≡ None → length file ≤ IMAGE_LIMIT → IsWeighedBy power image notes v t rule plain stored →
     start < length power.levels → AreBudgets power budget start (stored.worst 0)
     → HasStubsBy power image v t rule stored extra least sites base → out_of_reach base sites ≡ None
     → IsSafelyRewrittenBy power image notes v t rule plain stored (extra.worst 0) start (rewritten_file image sites base start)
@@ -61,7 +62,7 @@ abbrev pub ChosenImagesFollow : Type 0
 ChosenImagesFollow = (power : PowerModel) → IsPowerModel power → (budget : ℕ → ℕ) (chosen : ℕ → Bool) →
     (file : List ℕ) (image : Image) (notes : List LoopNote) (v : FlowGraph) (t : LoopView) (plain stored extra : Numbers) (least : Charged)
     (sites : List Site) (base start : ℕ)
-    → image_of file ≡ Ok image → image.keyed_segment ≡ None → length file ≤ 4194304 →
+    → image_of file ≡ Ok image → image.keyed_segment ≡ None → length file ≤ IMAGE_LIMIT →
     IsWeighedBy power image notes v t (by_choice power budget chosen) plain stored → start < length power.levels →
     AreBudgets power budget start (stored.worst 0)
     → HasStubsBy power image v t (by_choice power budget chosen) stored extra least sites base → out_of_reach base sites ≡ None

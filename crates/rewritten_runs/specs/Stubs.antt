@@ -3,6 +3,7 @@
 -- The marks are chosen under the plain weights of the edges; all numbers behind the tables are those under the stored weights.
 use Rattle.std.specs.Prelude.{◌≡◌, ◌≢◌, ℕ, zero, suc, ◌+◌, ◌-◌, ◌<◌, min, nat_lt, Bool, true, false, cond, List, [], ◌∷◌, map, length, All, slice_get, slice_index, slice_index_or, Some, option_map, Ok}
 use Rattle.std.specs.List.{list_any}
+use Rattle.scale_base.specs.declared.limits.TheConstants.{BLOCK_LIMIT}
 use Rattle.scale_base.specs.declared.fragments.Fragment.{Fragment}
 use Rattle.scale_base.specs.declared.fragments.Fragment.TheVariants as fragments
 use Rattle.scale_base.specs.declared.stepping.Class.{Class}
@@ -27,6 +28,7 @@ use Rattle.scale_sites.specs.Marks.{marks_of, first_counter}
 use Rattle.scale_sites.specs.Sites.{is_branch}
 use Rattle.scale_sites.specs.Weights.{extra_weight, tail_of}
 use Rattle.level_tables.specs.Tables as tables
+use Rattle.level_tables.specs.declared.edge_numbers.EdgeNumbers.{EdgeNumbers}
 use Rattle.level_tables.specs.Budgets.{meets_in_budget}
 use Rattle.stub_writer.specs.Stubs.{Site, block_size, block_bytes, patches_from}
 use Rattle.stored_runs.specs.Marks.{place_at, fragments_of_class}
@@ -42,7 +44,7 @@ plain_weights power image v = weights (text_of image) v.code (cycles_of power.co
 pub record Rule : Type 0 where
   pub gain : ℕ → ℕ
   pub least_gain : ℕ
-  pub test : tables.EdgeNumbers → ℕ → ℕ → Bool
+  pub test : EdgeNumbers → ℕ → ℕ → Bool
 
 -- by edge, the marks that a rule gives it
 abbrev pub marks_by : FlowGraph → LoopView → Rule → ℕ → List Mark
@@ -81,7 +83,7 @@ abbrev pub tail_at : PowerModel → (ℕ → List Mark) → ℕ → ℕ
 tail_at power marked e = tail_of power.costs (marked e)
 
 -- what an edge tells its switch, by the numbers and the least cycles under the stored weights
-abbrev pub told_at : PowerModel → Image → FlowGraph → LoopView → (ℕ → List Mark) → Numbers → Charged → ℕ → tables.EdgeNumbers
+abbrev pub told_at : PowerModel → Image → FlowGraph → LoopView → (ℕ → List Mark) → Numbers → Charged → ℕ → EdgeNumbers
 told_at power image v t marked n least e = record {
   slack = slack_at (graph v) (loops v t) (stored_weights power image v marked) n e;
   left = rest_at (graph v) (loops v t) n e + tail_at power marked e;
@@ -93,7 +95,7 @@ abbrev pub loop_of : List ℕ → ℕ → ℕ
 loop_of counted counter = slice_index counted (counter - first_counter)
 
 -- the fragment of a mark on an edge that tells its switch this, where the entries meet a test
-abbrev pub fragment_by : PowerModel → (tables.EdgeNumbers → ℕ → ℕ → Bool) → Loops → List ℕ → Numbers → tables.EdgeNumbers → Mark → Fragment
+abbrev pub fragment_by : PowerModel → (EdgeNumbers → ℕ → ℕ → Bool) → Loops → List ℕ → Numbers → EdgeNumbers → Mark → Fragment
 fragment_by power test l counted n told marks.Switch = fragments.Switch (tables.word_by power test told)
 fragment_by power test l counted n told (marks.Exit counter) =
     fragments.Exit counter (tables.shift_of (l.bound (loop_of counted counter)))
@@ -105,11 +107,11 @@ fragment_by power test l counted n told (marks.Tally counter) =
     fragments.Tally counter (tables.tally_shift (l.bound (loop_of counted counter)))
     (tables.tally_from power test (l.bound (loop_of counted counter)) (n.iteration (loop_of counted counter)) told)
 
-abbrev pub fragment_of : PowerModel → Loops → List ℕ → Numbers → tables.EdgeNumbers → Mark → Fragment
+abbrev pub fragment_of : PowerModel → Loops → List ℕ → Numbers → EdgeNumbers → Mark → Fragment
 fragment_of power l counted n told mark = fragment_by power (tables.meets_both power) l counted n told mark
 
 -- by edge, its fragments
-abbrev pub fragments_with : PowerModel → (tables.EdgeNumbers → ℕ → ℕ → Bool) → Image → FlowGraph → LoopView → (ℕ → List Mark) → Numbers →
+abbrev pub fragments_with : PowerModel → (EdgeNumbers → ℕ → ℕ → Bool) → Image → FlowGraph → LoopView → (ℕ → List Mark) → Numbers →
     Charged → ℕ → List Fragment
 fragments_with power test image v t marked n least e =
     map (fragment_by power test (loops v t) (counted_loops t) n (told_at power image v t marked n least e)) (marked e)
@@ -197,11 +199,11 @@ IsWeighed power image notes v t plain stored = IsWeighedBy power image notes v t
 
 -- Its stubs, too: the least cycles under the stored weights, which the tables need, the numbers under the extra weights, and the marked instructions with the
 -- place of their block. A block that is too long for any place is looked for one of 4,194,304 bytes: its last stub is out of reach.
-pub record HasStubsWith (power : PowerModel) (test : tables.EdgeNumbers → ℕ → ℕ → Bool) (image : Image) (v : FlowGraph) (t : LoopView) (marked : ℕ → List Mark) (stored extra : Numbers) (least : Charged) (sites : List Site) (base : ℕ) : Type 0 where
+pub record HasStubsWith (power : PowerModel) (test : EdgeNumbers → ℕ → ℕ → Bool) (image : Image) (v : FlowGraph) (t : LoopView) (marked : ℕ → List Mark) (stored extra : Numbers) (least : Charged) (sites : List Site) (base : ℕ) : Type 0 where
   pub least_are : AreCharged (graph v) (loops v t) (stored_weights power image v marked) least
   pub extra_are : AreNumbers (graph v) (loops v t) (extra_weights power v marked) extra
   pub sites_are : AreSitesOf image v.code (fragments_with power test image v t marked stored least) sites
-  pub base_is : IsStubBase image (min (block_size sites) 4194304) base
+  pub base_is : IsStubBase image (min (block_size sites) BLOCK_LIMIT) base
 
 -- the marks and the test of a rule
 abbrev pub HasStubsBy : PowerModel → Image → FlowGraph → LoopView → Rule → (stored extra : Numbers) → Charged → List Site → (base : ℕ) →

@@ -3,7 +3,7 @@
 use crate::runs::{RunMarks, RunWeight, Watched};
 use crate::sums::{Sums, weight_of};
 use crate::tracing::EdgeTrace;
-use crate::walking::{WALKS, WalkPlan, walked};
+use crate::walking::{HABITS, WALKS, WalkPlan, walked};
 use elf_image::ImageView;
 use power_model::Power;
 use run_progress::{Part, Progress};
@@ -101,7 +101,7 @@ impl Runs<'_> {
         Ok(sums)
     }
 
-    /// Adds what the walks do at the candidates.
+    /// Adds what the walks do at the candidates: those with habits have no weight.
     fn add_walk_runs(
         &self,
         alloc: Global,
@@ -110,11 +110,12 @@ impl Runs<'_> {
         runs: &mut Vec<RunMarks>,
         trace: &mut EdgeTrace,
     ) -> Result<(), NoMemory> {
-        for number in 0..WALKS {
+        for number in 0..WALKS + HABITS {
             if let Some(cycles) = walked(alloc, self.plan, number, trace)? {
+                let own = if number < WALKS { shares } else { 0 };
                 let run = RunWeight {
                     cycles,
-                    weight: weight_of(shares, cycles),
+                    weight: weight_of(own, cycles),
                     is_input: false,
                 };
                 runs.push(RunMarks::new(alloc, watched, trace, run)?)?;

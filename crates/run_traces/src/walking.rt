@@ -1,4 +1,5 @@
-//! Random walks of a program's graph that keep the bounds of its loops and its return addresses: runs that may be, where inputs show too few.
+//! Random walks of a program's graph that keep the bounds of its loops and its return addresses: runs that may be, where inputs show too few. Some choose
+//! anew at each step; others have habits, as a run has on an input that is all of one kind.
 
 use crate::numbers::{EdgeNumbers, Numbers};
 use crate::tracing::{EdgeTrace, may_switch};
@@ -7,8 +8,14 @@ use loop_forest::LoopTree;
 use scale_base::{EdgeKind, NoMemory};
 use std::alloc::Global;
 
-/// How many walks there are.
+/// How many walks there are that choose anew at each step.
 pub const WALKS: usize = 11;
+
+/// How many walks there are with habits.
+pub const HABITS: usize = 32;
+
+/// How often of 100 times a walk with habits keeps them at a branch.
+const KEEPS: u64 = 92;
 
 /// How many steps a walk has at most.
 const MOST_STEPS: usize = 120_000;
@@ -44,6 +51,28 @@ impl Dice {
             .wrapping_mul(6364136223846793005)
             .wrapping_add(1442695040888963407);
         (self.state >> 33) % 100
+    }
+}
+
+/// Where the numbers of loops begin among those by which habits are drawn, behind all edges.
+const LOOPS: usize = 0x1000_0000;
+
+/// A number below 100, by which a walk with habits always does the same at an edge or in a loop.
+fn drawn(walk: u64, place: usize) -> u64 {
+    let seed = walk.wrapping_shl(32).wrapping_add(place as u64);
+    let mut dice = Dice::new(seed);
+    dice.throw()
+}
+
+/// A part of a loop's bound, by a number below 100: none of it, a sixteenth, an eighth, a quarter, half of it, or all.
+fn part_of(bound: u32, number: u64) -> u32 {
+    match number % 6 {
+        0 => 0,
+        1 => bound / 16,
+        2 => bound / 8,
+        3 => bound / 4,
+        4 => bound / 2,
+        _ => bound,
     }
 }
 
@@ -113,6 +142,8 @@ struct Walker {
     calls: Vec<usize>,
     dice: Dice,
     bias: u64,
+    /// The number of a walk with habits.
+    habit: Option<u64>,
 }
 
 /// How a step of a walk ends.
@@ -183,7 +214,29 @@ impl Walker {
             calls: Vec::with_capacity(alloc, MOST_CALLS)?,
             dice: Dice::new((number as u64).wrapping_add(1)),
             bias,
+            habit: if number < WALKS {
+                None
+            } else {
+                Some(number as u64)
+            },
         })
+    }
+
+    /// How many turns the walk takes in a loop at least and at most where there is a choice: by habit one of the loop's own, a part of the bound.
+    fn turns(&self, tree: &LoopTree, l: usize) -> (u32, u32) {
+        if l >= tree.loop_count() {
+            return (0, 0);
+        }
+        let least = tree.least_trips(l);
+        let bound = tree.bound(l);
+        match self.habit {
+            Some(number) => {
+                let turns = part_of(bound, drawn(number, LOOPS.wrapping_add(l)));
+                let kept = turns.max(least).min(bound);
+                (kept, kept)
+            }
+            None => (least, bound),
+        }
     }
 
     /// How many back edges a loop has taken since it was last entered.
@@ -206,8 +259,9 @@ impl Walker {
         match loop_at(&plan.places.innermost, k) {
             Some(l) if l < tree.loop_count() => {
                 let leaves = plan.leaves(e, l);
-                let full = self.count(l) >= tree.bound(l);
-                let early = self.count(l) < tree.least_trips(l);
+                let (least, most) = self.turns(tree, l);
+                let full = self.count(l) >= most;
+                let early = self.count(l) < least;
                 if (leaves && early) || (full && !leaves) {
                     Fit::Poor
                 } else {
@@ -218,8 +272,13 @@ impl Walker {
         }
     }
 
-    /// One of two edges of a branch that are as good, by the dice.
+    /// One of two edges of a branch that are as good, by habit or by the dice.
     fn cast(&mut self, plan: &WalkPlan<'_>, one: usize, other: usize) -> usize {
+        if let Some(number) = self.habit {
+            let usual = drawn(number, one) < 50;
+            let keeps = self.dice.throw() < KEEPS;
+            return if usual == keeps { one } else { other };
+        }
         if self.dice.throw() < self.bias {
             if slack_of(plan, other) < slack_of(plan, one) {
                 other

@@ -9,6 +9,7 @@ pub mod Word
 pub mod Reading
 pub mod Class
 pub mod Layout
+pub mod Least
 pub mod Arith
 pub mod State
 pub mod Service

@@ -13,6 +13,8 @@ mod fragments;
 mod headers;
 mod instruction;
 mod layout;
+mod least;
+mod limits;
 mod names;
 mod plan;
 mod ranges;
@@ -29,6 +31,10 @@ pub use instruction::{BranchOp, ImmOp, Instr, LoadOp, RegOp, StoreOp};
 pub use layout::{
     KEY_FLAG, KEYED_FLAGS, PF_R, PF_W, PF_X, PLAIN_END, PORT, STACK, STACK_LEN, STACK_POINTER,
     STACK_START, WINDOW, WINDOW_LEN, WINDOW_START, WINDOW_WORDS,
+};
+pub use least::lesser;
+pub use limits::{
+    BLOCK_LIMIT, CYCLE_LIMIT, FILE_LIMIT, IMAGE_LIMIT, RETURN_LIMIT, STORED_LIMIT, WORD_LIMIT,
 };
 pub use names::{Cycle, Name};
 pub use plan::{ScalePlan, SiteLine};

@@ -1,13 +1,15 @@
 //! What marks cost.
 
 ghost use Rattle.std.specs.Prelude.{◌≡◌, ◌≤◌, ◌*◌, ◌+◌, length, true};
+ghost use Rattle.scale_base.specs.declared.stepping.Class.{Class};
+ghost use Rattle.power_model.specs.Price.{cycles_of};
 ghost use Rattle.scale_sites.specs.Weights.{mark_cost, marks_cost, mark_tail, switches, tail_of, extra_of};
 
 use power_model::Costs;
-use scale_base::Mark;
+use scale_base::{Class, Mark};
 
-/// The cost of a mark's fragment.
-fn mark_cost(mark: &Mark, costs: &Costs) -> u32
+/// The cycles of a mark's code.
+pub fn mark_cost(mark: &Mark, costs: &Costs) -> u32
     ensures cost { result ≡ mark_cost costs.now mark.now }
     ensures small { result ≤ 16 * 65535 }
 {
@@ -22,7 +24,7 @@ fn mark_cost(mark: &Mark, costs: &Costs) -> u32
     stores * u32::from(costs.store) + loads * u32::from(costs.load) + alus * u32::from(costs.alu)
 }
 
-/// The cost of the fragments of a list of marks.
+/// The cycles of the code of some marks.
 fn marks_cost(marks: &[Mark], costs: &Costs) -> u32
     requires few { length marks.now ≤ 1600 }
     ensures cost { result ≡ marks_cost costs.now marks.now }
@@ -47,8 +49,8 @@ pub fn extra_of(marks: &[Mark], jumps: u8, costs: &Costs) -> u32
     u32::from(jumps) * u32::from(costs.jump) + marks_cost(marks, costs)
 }
 
-/// The cycles of a mark's fragment behind its port store: the loads of what it saved.
-fn mark_tail(mark: &Mark, costs: &Costs) -> u32
+/// The cycles of a mark's code behind its store at the port, if it were the first of its edge: the loads of what it saved.
+pub fn mark_tail(mark: &Mark, costs: &Costs) -> u32
     ensures tail { result ≡ mark_tail costs.now mark.now }
     ensures small { result ≤ 2 * 65535 }
 {
@@ -68,4 +70,23 @@ pub fn tail_of(marks: &[Mark], costs: &Costs) -> u32
 {
     let jump = u32::from(costs.jump);
     mark_tail(&marks[0], costs) + marks_cost(&marks[1..], costs) + jump
+}
+
+/// No class costs more than 65,535 cycles.
+pub fn small_costs(costs: &Costs)
+    ensures { (class : Class) → cycles_of costs.now class ≤ 65535 }
+{
+    let alu = costs.of(Class::Alu);
+    let load = costs.of(Class::Load);
+    let store = costs.of(Class::Store);
+    let taken = costs.of(Class::Taken);
+    let untaken = costs.of(Class::Untaken);
+    let jump = costs.of(Class::Jump);
+    let mul = costs.of(Class::Mul);
+    let div = costs.of(Class::Div);
+    let ecall = costs.of(Class::Ecall);
+    let fence = costs.of(Class::Fence);
+    let _all = [
+        alu, load, store, taken, untaken, jump, mul, div, ecall, fence,
+    ];
 }

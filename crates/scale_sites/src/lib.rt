@@ -13,6 +13,7 @@ ghost use Rattle.scale_sites.specs.Forms.{MarksStoreFirst, FormedStoresFirst, Fo
 ghost use Rattle.scale_sites.specs.Marks.{SwitchesOnce};
 ghost use Rattle.scale_sites.specs.Weights.{ExtraSplits};
 
+pub use cost::{mark_cost, mark_tail, small_costs};
 pub use counting::{CounterList, counters};
 pub use sites::{Sites, choose, choose_where, form_sites};
 

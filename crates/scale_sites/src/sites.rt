@@ -1,7 +1,6 @@
 //! The marks and the jumps of all edges.
 
 ghost use Rattle.std.specs.Prelude.{◌≡◌, ◌+◌, ◌*◌, ◌<◌, ◌≤◌, ℕ, Bool, true, List, [], length, map, slice_get, slice_index, slice_index_or, Some, IfOk};
-ghost use Rattle.scale_base.specs.declared.stepping.Class.{Class};
 ghost use Rattle.power_model.specs.Price.{cycles_of};
 ghost use Rattle.cost_theory.specs.Graph.{any_below};
 ghost use Rattle.code_text.specs.EdgeCosts.{cost_of};
@@ -23,7 +22,7 @@ use crate::marking::Marking;
 use flow_graph::{CodeGraph, Weights};
 use loop_forest::LoopTree;
 use power_model::Costs;
-use scale_base::{Class, EdgeKind, Mark, NoMemory};
+use scale_base::{EdgeKind, Mark, NoMemory};
 use std::alloc::Global;
 use std::marker::Model;
 
@@ -291,25 +290,6 @@ pub fn form_sites(
     Ok(Sites { marks, jumps })
 }
 
-/// No class costs more than 65,535 cycles.
-fn small_costs(costs: &Costs)
-    ensures { (class : Class) → cycles_of costs.now class ≤ 65535 }
-{
-    let alu = costs.of(Class::Alu);
-    let load = costs.of(Class::Load);
-    let store = costs.of(Class::Store);
-    let taken = costs.of(Class::Taken);
-    let untaken = costs.of(Class::Untaken);
-    let jump = costs.of(Class::Jump);
-    let mul = costs.of(Class::Mul);
-    let div = costs.of(Class::Div);
-    let ecall = costs.of(Class::Ecall);
-    let fence = costs.of(Class::Fence);
-    let _all = [
-        alu, load, store, taken, untaken, jump, mul, div, ecall, fence,
-    ];
-}
-
 impl Sites {
     /// The extra weights: by edge, the cycles that it costs besides its own.
     pub fn extra_weights(
@@ -345,7 +325,7 @@ impl Sites {
             (slice_index self.now.jumps e) (marks_at_edge self.now e)) }
         ensures small { IfOk result (λ w. (e : ℕ) → e < length graph.now.code.edges → slice_index w e ≤ 4294967295) }
     {
-        small_costs(costs);
+        cost::small_costs(costs);
         let base = graph.base_weights(alloc, costs)?;
         let mut weights = Vec::new(alloc);
         for e in 0..graph.edge_count() {

@@ -1,5 +1,5 @@
 -- From what a command gives to its reply, and the statuses of the answers.
-use Rattle.std.proofs.Common.{◌≡◌, ℕ, Bool, true, List, [], ◌∷◌, Option, Some, None, Result, Ok, Err, refl, sym, ap, ◌∙◌, subst}
+use Rattle.std.proofs.Common.{◌≡◌, ℕ, Bool, List, [], ◌∷◌, Some, None, Result, Ok, Err, refl, sym, subst}
 use Rattle.std.specs.Prelude.{nat_le, ◌==◌, ◌||◌, option_map, IsTrue, IfOk}
 use Rattle.scale_base.specs.declared.endings.End.{End}
 use Rattle.scale_base.specs.declared.endings.End.TheVariants.{Exited, Trapped, OutOfSteps}
@@ -16,7 +16,7 @@ use Rattle.speed_sim.specs.Simulated.{simulated}
 use Rattle.host_runs.specs.Answer.{Answer, Giving, Tells, refused, stored_answer, text_answer}
 use Rattle.host_runs.specs.declared.reply.Reply.{Reply}
 use Rattle.host_runs.specs.Views.{given_by, reply_view}
-use Rattle.scale_tool.specs.Answer.{MadeFiles, Makes, made_answer, run_answer, run_status, scaled_answer, unless_refused, runs_answer, verdict_answer}
+use Rattle.scale_tool.specs.Answer.{MadeFiles, Makes, made_answer, run_answer, run_status, unless_refused, runs_answer, verdict_answer}
 use Rattle.scale_tool.specs.Command.{Command, Help, Hold, Rewrite, Report as ReportOf, Simulate, Make, Lower, Check, Survey, Tune, may_give}
 use Rattle.scale_tool.specs.Scaled.{IsTold, told_answer}
 

@@ -3,6 +3,7 @@ use Rattle.std.specs.Prelude.{ℕ, List, [], ◌∷◌, length, map, Option, Som
 use Rattle.std.specs.declared.alloc.Global.{Global}
 use Rattle.host_runs.specs.Loading.{Wants}
 use Rattle.scale_tool.specs.Numbers.{digits_within}
+use Rattle.scale_base.specs.declared.limits.TheConstants.{FILE_LIMIT, IMAGE_LIMIT, STORED_LIMIT}
 
 pub data Command : Type 0 where
   Help : Command
@@ -86,25 +87,25 @@ command_of (word ∷ words) =
 -- a loop file, if one is given
 abbrev pub loop_wants : Option (List ℕ) → Wants
 loop_wants None = []
-loop_wants (Some loops) = (loops, 1048576) ∷ []
+loop_wants (Some loops) = (loops, FILE_LIMIT) ∷ []
 
 -- inputs that are loaded, each with its limit in bytes
 abbrev pub input_wants : List (List ℕ) → Wants
-input_wants inputs = map (λ input. (input, 1048576)) inputs
+input_wants inputs = map (λ input. (input, FILE_LIMIT)) inputs
 
 -- the files that it loads, in order, each with its limit in bytes
 abbrev pub wants_of : Command → Wants
 wants_of Help = []
-wants_of (Hold image machine loops out) = (image, 4194304) ∷ (machine, 1048576) ∷ (loops, 1048576) ∷ []
-wants_of (Rewrite image machine loops out) = (image, 4194304) ∷ (machine, 1048576) ∷ (loops, 1048576) ∷ []
-wants_of (Report image machine loops) = (image, 4194304) ∷ (machine, 1048576) ∷ (loops, 1048576) ∷ []
-wants_of (Simulate image machine input out loops) = (image, 8388608) ∷ (machine, 1048576) ∷ (input, 1048576) ∷ loop_wants loops
+wants_of (Hold image machine loops out) = (image, IMAGE_LIMIT) ∷ (machine, FILE_LIMIT) ∷ (loops, FILE_LIMIT) ∷ []
+wants_of (Rewrite image machine loops out) = (image, IMAGE_LIMIT) ∷ (machine, FILE_LIMIT) ∷ (loops, FILE_LIMIT) ∷ []
+wants_of (Report image machine loops) = (image, IMAGE_LIMIT) ∷ (machine, FILE_LIMIT) ∷ (loops, FILE_LIMIT) ∷ []
+wants_of (Simulate image machine input out loops) = (image, STORED_LIMIT) ∷ (machine, FILE_LIMIT) ∷ (input, FILE_LIMIT) ∷ loop_wants loops
 wants_of (Make number size prefix) = []
-wants_of (Lower image jumps out) = (image, 4194304) ∷ (jumps, 1048576) ∷ []
-wants_of (Check image foreign machine loops) = (image, 4194304) ∷ (foreign, 8388608) ∷ (machine, 1048576) ∷ (loops, 1048576) ∷ []
-wants_of (Survey image scaled machine loops inputs) = (image, 4194304) ∷ (scaled, 8388608) ∷ (machine, 1048576) ∷ (loops, 1048576) ∷
+wants_of (Lower image jumps out) = (image, IMAGE_LIMIT) ∷ (jumps, FILE_LIMIT) ∷ []
+wants_of (Check image foreign machine loops) = (image, IMAGE_LIMIT) ∷ (foreign, STORED_LIMIT) ∷ (machine, FILE_LIMIT) ∷ (loops, FILE_LIMIT) ∷ []
+wants_of (Survey image scaled machine loops inputs) = (image, IMAGE_LIMIT) ∷ (scaled, STORED_LIMIT) ∷ (machine, FILE_LIMIT) ∷ (loops, FILE_LIMIT) ∷
     input_wants inputs
-wants_of (Tune image machine loops out inputs) = (image, 4194304) ∷ (machine, 1048576) ∷ (loops, 1048576) ∷ input_wants inputs
+wants_of (Tune image machine loops out inputs) = (image, IMAGE_LIMIT) ∷ (machine, FILE_LIMIT) ∷ (loops, FILE_LIMIT) ∷ input_wants inputs
 
 -- the files that are loaded for what was asked: none for words that are no command
 abbrev pub wants_asked : Option Command → Wants

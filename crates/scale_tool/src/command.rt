@@ -8,6 +8,7 @@ ghost use Rattle.scale_tool.specs.Views.{command_view, work_view};
 use crate::input_names::InputNames;
 use crate::numbers::{Size, program_number, program_size};
 use host_runs::Want;
+use scale_base::{FILE_LIMIT, IMAGE_LIMIT, STORED_LIMIT};
 use std::alloc::{AllocError, Global};
 
 /// A command.
@@ -249,13 +250,6 @@ fn parse_tune(words: &[String]) -> Option<Command<'_>>
     }
 }
 
-// How many bytes an image may have, how many an image that is only run or checked, and how many any other file.
-const IMAGE_LIMIT: u64 = 4194304;
-
-const RUN_LIMIT: u64 = 8388608;
-
-const TEXT_LIMIT: u64 = 1048576;
-
 /// The files that are loaded, in order.
 pub fn wants<'a>(alloc: Global, work: &Work<'a>) -> Result<Vec<Want<'a>>, AllocError>
     ensures { IfOk result (λ wants. want_views wants.items ≡ wants_of (work_view work.now)) }
@@ -287,21 +281,37 @@ pub fn wants<'a>(alloc: Global, work: &Work<'a>) -> Result<Vec<Want<'a>>, AllocE
         } => run_wants(alloc, image, machine, input, loops),
         Work::Make { .. } => Ok(Vec::new(alloc)),
         Work::Lower { image, jumps, .. } => {
-            Ok(vec![in alloc; want(image, IMAGE_LIMIT), want(jumps, TEXT_LIMIT)]?)
+            Ok(vec![in alloc; want(image, IMAGE_LIMIT), want(jumps, FILE_LIMIT)]?)
         }
         Work::Check {
             image,
             foreign,
             machine,
             loops,
-        } => pair_wants(alloc, image, foreign, machine, loops, &[]),
+        } => {
+            let names = PairNames {
+                image,
+                other: foreign,
+                machine,
+                loops,
+            };
+            pair_wants(alloc, &names, &[])
+        }
         Work::Survey {
             image,
             scaled,
             machine,
             loops,
             inputs,
-        } => pair_wants(alloc, image, scaled, machine, loops, inputs.names),
+        } => {
+            let names = PairNames {
+                image,
+                other: scaled,
+                machine,
+                loops,
+            };
+            pair_wants(alloc, &names, inputs.names)
+        }
         Work::Tune {
             image,
             machine,
@@ -320,35 +330,41 @@ fn program_wants<'a>(
     loops: &'a str,
     inputs: &'a [String],
 ) -> Result<Vec<Want<'a>>, AllocError>
-    ensures { IfOk result (λ wants. want_views wants.items ≡ (image.now, 4194304) ∷ (machine.now, 1048576) ∷ (loops.now, 1048576) ∷
+    ensures { IfOk result (λ wants. want_views wants.items ≡ (image.now, IMAGE_LIMIT) ∷ (machine.now, FILE_LIMIT) ∷ (loops.now, FILE_LIMIT) ∷
         input_wants (texts inputs.now)) }
 {
     let mut wants = vec![in alloc;
         want(image, IMAGE_LIMIT),
-        want(machine, TEXT_LIMIT),
-        want(loops, TEXT_LIMIT),
+        want(machine, FILE_LIMIT),
+        want(loops, FILE_LIMIT),
     ]?;
     push_inputs(&mut wants, inputs)?;
     Ok(wants)
 }
 
-// The same with another image behind the first.
-fn pair_wants<'a>(
-    alloc: Global,
+// The names of a program's files, with another image behind the first.
+#[derive(Clone, Copy)]
+struct PairNames<'a> {
     image: &'a str,
     other: &'a str,
     machine: &'a str,
     loops: &'a str,
+}
+
+// These files, and inputs.
+fn pair_wants<'a>(
+    alloc: Global,
+    names: &PairNames<'a>,
     inputs: &'a [String],
 ) -> Result<Vec<Want<'a>>, AllocError>
-    ensures { IfOk result (λ wants. want_views wants.items ≡ (image.now, 4194304) ∷ (other.now, 8388608) ∷ (machine.now, 1048576) ∷
-        (loops.now, 1048576) ∷ input_wants (texts inputs.now)) }
+    ensures { IfOk result (λ wants. want_views wants.items ≡ (names.now.image.now, IMAGE_LIMIT) ∷ (names.now.other.now, STORED_LIMIT) ∷
+        (names.now.machine.now, FILE_LIMIT) ∷ (names.now.loops.now, FILE_LIMIT) ∷ input_wants (texts inputs.now)) }
 {
     let mut wants = vec![in alloc;
-        want(image, IMAGE_LIMIT),
-        want(other, RUN_LIMIT),
-        want(machine, TEXT_LIMIT),
-        want(loops, TEXT_LIMIT),
+        want(names.image, IMAGE_LIMIT),
+        want(names.other, STORED_LIMIT),
+        want(names.machine, FILE_LIMIT),
+        want(names.loops, FILE_LIMIT),
     ]?;
     push_inputs(&mut wants, inputs)?;
     Ok(wants)
@@ -362,16 +378,16 @@ fn run_wants<'a>(
     input: &'a str,
     loops: Option<&'a str>,
 ) -> Result<Vec<Want<'a>>, AllocError>
-    ensures { IfOk result (λ wants. want_views wants.items ≡ (image.now, 8388608) ∷ (machine.now, 1048576) ∷ (input.now, 1048576) ∷
+    ensures { IfOk result (λ wants. want_views wants.items ≡ (image.now, STORED_LIMIT) ∷ (machine.now, FILE_LIMIT) ∷ (input.now, FILE_LIMIT) ∷
         loop_wants (option_map (λ l. l.now) loops.entry)) }
 {
     let mut wants = vec![in alloc;
-        want(image, RUN_LIMIT),
-        want(machine, TEXT_LIMIT),
-        want(input, TEXT_LIMIT),
+        want(image, STORED_LIMIT),
+        want(machine, FILE_LIMIT),
+        want(input, FILE_LIMIT),
     ]?;
     if let Some(loops) = loops {
-        wants.push(want(loops, TEXT_LIMIT))?;
+        wants.push(want(loops, FILE_LIMIT))?;
     }
     Ok(wants)
 }
@@ -380,13 +396,16 @@ fn push_inputs<'a>(wants: &mut Vec<Want<'a>>, inputs: &'a [String]) -> Result<()
     ensures { OnOk result (want_views wants.new.items ≡ want_views wants.old.items ++ input_wants (texts inputs.now)) }
 {
     for name in inputs {
-        wants.push(want(name.as_str(), TEXT_LIMIT))?;
+        wants.push(want(name.as_str(), FILE_LIMIT))?;
     }
     Ok(())
 }
 
-fn want(name: &str, limit: u64) -> Want<'_>
+fn want(name: &str, limit: usize) -> Want<'_>
     ensures { (result.name.now ≡ name.now) × (result.limit ≡ limit) }
 {
-    Want { name, limit }
+    Want {
+        name,
+        limit: limit as u64,
+    }
 }

@@ -15,7 +15,7 @@ use host_runs::{Reply, Store};
 use image_maker::Made;
 use power_model::RunReport;
 use run_progress::Progress;
-use scale_base::{NoMemory, Stop, Summary};
+use scale_base::{FILE_LIMIT, IMAGE_LIMIT, NoMemory, Stop, Summary};
 use scale_report::{run_text, summary_text};
 use scaler::rewrite;
 use speed_sim::{RunFiles, simulate_with_progress};
@@ -45,19 +45,21 @@ fn stores_of(
     ]?)
 }
 
+// How a made image runs, and how the scaled one.
+#[derive(Drop)]
+struct MadeRuns {
+    original: RunReport,
+    scaled: RunReport,
+}
+
 // The summary, and the reports of both runs.
-fn text_of(
-    alloc: Global,
-    summary: &Summary,
-    first: &RunReport,
-    second: &RunReport,
-) -> Result<String, NoMemory>
-    ensures { IfOk result (λ text. string_bytes text ≡ summary_text summary.now ++ run_text (report_view first.now) ++ run_text
-        (report_view second.now)) }
+fn text_of(alloc: Global, summary: &Summary, runs: &MadeRuns) -> Result<String, NoMemory>
+    ensures { IfOk result (λ text. string_bytes text ≡ summary_text summary.now ++ run_text (report_view runs.now.original) ++ run_text
+        (report_view runs.now.scaled)) }
 {
     let mut text = summary_text(alloc, summary)?;
-    text.push_str(run_text(alloc, first)?.as_str())?;
-    text.push_str(run_text(alloc, second)?.as_str())?;
+    text.push_str(run_text(alloc, &runs.original)?.as_str())?;
+    text.push_str(run_text(alloc, &runs.scaled)?.as_str())?;
     Ok(text)
 }
 
@@ -67,35 +69,34 @@ fn reply_of(
     prefix: &str,
     made: Made,
     scaled: (Vec<u8>, Summary),
-    first: &RunReport,
-    second: &RunReport,
+    runs: &MadeRuns,
 ) -> Result<Reply, NoMemory>
-    ensures { IfOk result (λ reply. reply_view reply ≡ runs_answer prefix.now (made_view made) (file_view scaled) (report_view first.now)
-        (report_view second.now)) }
+    ensures { IfOk result (λ reply. reply_view reply ≡ runs_answer prefix.now (made_view made) (file_view scaled)
+        (report_view runs.now.original) (report_view runs.now.scaled)) }
 {
     let (bytes, summary) = scaled;
     Ok(Reply {
-        text: text_of(alloc, &summary, first, second)?,
+        text: text_of(alloc, &summary, runs)?,
         stores: stores_of(alloc, prefix, made, bytes)?,
-        status: status_of(second.end),
+        status: status_of(runs.scaled.end),
     })
 }
 
-// How an image runs. How far the run is is told.
+// How an image runs with the machine file and the input of a made program. How far the run is is told.
 fn report_of<P: Progress>(
     alloc: Global,
     image: &[u8],
-    machine: &[u8],
-    input: &[u8],
+    made: &Made,
     loops: Option<&[u8]>,
     progress: &mut P,
 ) -> Result<RunReport, Stop>
-    ensures { Answers report_view result (simulated image.now machine.now input.now (option_map (λ l. l.now) loops.entry)) }
+    ensures { Answers report_view result (simulated image.now made.now.machine.items made.now.input.items
+        (option_map (λ l. l.now) loops.entry)) }
 {
     let files = RunFiles {
         image,
-        machine,
-        input,
+        machine: &made.machine,
+        input: &made.input,
         loops,
     };
     simulate_with_progress(alloc, &files, progress)
@@ -111,16 +112,12 @@ fn scaled_reply<P: Progress>(
 ) -> Result<Reply, Stop>
     ensures { AnswersBy reply_view result (λ reply. told_answer reply ≡ scaled_answer prefix.now (made_view made) (file_view scaled)) }
 {
-    let first = report_of(
-        alloc,
-        &made.image,
-        &made.machine,
-        &made.input,
-        Some(&made.loops),
-        progress,
-    )?;
-    let second = report_of(alloc, &scaled.0, &made.machine, &made.input, None, progress)?;
-    Ok(reply_of(alloc, prefix, made, scaled, &first, &second)?)
+    let original = report_of(alloc, &made.image, &made, Some(&made.loops), progress)?;
+    let runs = MadeRuns {
+        original,
+        scaled: report_of(alloc, &scaled.0, &made, None, progress)?,
+    };
+    Ok(reply_of(alloc, prefix, made, scaled, &runs)?)
 }
 
 /// What is told of a made program: its image runs with its loop file, and what it is rewritten to without one. How far the runs are is told, too.
@@ -130,9 +127,9 @@ pub fn made_reply<P: Progress>(
     made: Made,
     progress: &mut P,
 ) -> Result<Reply, Stop>
-    requires image { length made.image.items ≤ 4194304 }
-    requires machine { length made.machine.items ≤ 1048576 }
-    requires loops { length made.loops.items ≤ 1048576 }
+    requires image { length made.image.items ≤ IMAGE_LIMIT }
+    requires machine { length made.machine.items ≤ FILE_LIMIT }
+    requires loops { length made.loops.items ≤ FILE_LIMIT }
     ensures { AnswersBy reply_view result (IsMadeReply prefix.now (made_view made)) }
 {
     let scaled = rewrite(alloc, &made.image, &made.machine, &made.loops)?;

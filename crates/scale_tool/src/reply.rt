@@ -27,7 +27,7 @@ use host_runs::{ProgramFiles, Reply};
 use input_survey::{SurveyFiles, survey_with_progress};
 use power_model::RunReport;
 use run_progress::Progress;
-use scale_base::{End, Lowered, NoMemory, Stop, Summary, Tuned, Verdict};
+use scale_base::{End, IMAGE_LIMIT, Lowered, NoMemory, Stop, Summary, Tuned, Verdict};
 use scale_report::{
     lowered_text, plan_text, run_text, summary_text, survey_text, tuned_text, verdict_text,
 };
@@ -143,7 +143,7 @@ fn make_reply<P: Progress>(
 
 // `lower`: the lowered image, and what was lowered.
 fn lower_reply(alloc: Global, out: &str, image: &[u8], jumps: &[u8]) -> Result<Reply, Stop>
-    requires { length image.now ≤ 4194304 }
+    requires { length image.now ≤ IMAGE_LIMIT }
     ensures bytes { AreBytes image.now }
     ensures told { IsTold (Tells (IsLowered image.now jumps.now) (stored_answer lowered_text out.now)) result }
 {

@@ -24,7 +24,7 @@ use Rattle.cycle_laws.specs.Charged.{Charged}
 use Rattle.flow_graph.specs.FlowGraph.{FlowGraph, graph}
 use Rattle.loop_forest.specs.Noted.{node_address}
 use Rattle.loop_forest.specs.Tree.{LoopView, loops, IsTreeOf}
-use Rattle.level_tables.specs.Tables as tables
+use Rattle.level_tables.specs.declared.edge_numbers.EdgeNumbers.{EdgeNumbers}
 use Rattle.scale_sites.specs.Counters.{counted_loops}
 use Rattle.scale_sites.specs.Marks.{first_counter}
 use Rattle.scale_sites.specs.Sites.{marks_at_edge}
@@ -93,7 +93,7 @@ counter_holds counted c P h small =
     let loop : loop_of counted c ≡ h.loop = ap (slice_index counted) back ∙ get_or_from_slice_get counted h.place h.loop 0 h.get in
     (omega (arith, is), subst (λ n. n < length counted) (sym back) within, subst (λ n. n < 4096) (sym loop) (small h.place h.loop h.get))
 
-mark_holds : (power : PowerModel) (test : tables.EdgeNumbers → ℕ → ℕ → Bool) (l other : Loops) (counted : List ℕ) (n : Numbers) (told : tables.EdgeNumbers) (branch : Bool) (u : ℕ) (p : Option ℕ) (mark : Mark) → IsMarkOf l counted branch u p mark
+mark_holds : (power : PowerModel) (test : EdgeNumbers → ℕ → ℕ → Bool) (l other : Loops) (counted : List ℕ) (n : Numbers) (told : EdgeNumbers) (branch : Bool) (u : ℕ) (p : Option ℕ) (mark : Mark) → IsMarkOf l counted branch u p mark
     → ((place loop : ℕ) → slice_get counted place ≡ Some loop → loop < 4096) → IsOfLoop counted (fragment_by power test other counted n told mark)
 mark_holds power test l other counted n told branch u p marks.Switch h small = tt
 mark_holds power test l other counted n told branch u p (marks.Exit c) h small = counter_holds counted c _ h small
@@ -104,7 +104,7 @@ mark_holds power test l other counted n told branch u p (marks.Tally c) h small 
 
 -- the fragments of a marking are of loops that have numbers
 pub of_loop : (power : PowerModel) (image : Image) (v : FlowGraph) (t : LoopView) (wanted : Wanted) (stored : Numbers) (least : Charged) (m : Marking) → IsMarking power image v t wanted stored least m → length t.headers ≤ 4096
-    → (test : tables.EdgeNumbers → ℕ → ℕ → Bool) (e i : ℕ) (mark : Mark) (told : tables.EdgeNumbers) → e < length v.code.edges → slice_get (marks_at_edge m.sites e) i ≡ Some mark → IsOfLoop m.counters (fragment_by power test (loops v t) (counted_loops t) stored told mark)
+    → (test : EdgeNumbers → ℕ → ℕ → Bool) (e i : ℕ) (mark : Mark) (told : EdgeNumbers) → e < length v.code.edges → slice_get (marks_at_edge m.sites e) i ≡ Some mark → IsOfLoop m.counters (fragment_by power test (loops v t) (counted_loops t) stored told mark)
 of_loop power image v t wanted stored least m is few test e i mark told lt at =
     subst (λ cs. IsOfLoop cs (fragment_by power test (loops v t) (counted_loops t) stored told mark)) (sym is.counters)
     (mark_holds power test (loops v t) (loops v t) (counted_loops t) stored told (wanted.switch e) ((graph v).source e) ((graph v).target e) mark (mark_is power image v t wanted stored least m is e i mark lt at)

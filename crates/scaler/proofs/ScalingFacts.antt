@@ -14,10 +14,11 @@ use Rattle.flow_graph.specs.FlowGraph.{FlowGraph, graph, IsGraphOf}
 use Rattle.loop_file.specs.declared.notes.LoopNote.{LoopNote}
 use Rattle.loop_forest.specs.Tree.{LoopView, loops, IsTreeOf}
 use Rattle.level_tables.specs.Tables as tables
+use Rattle.level_tables.specs.declared.edge_numbers.EdgeNumbers.{EdgeNumbers}
 use Rattle.scale_sites.specs.Counters.{AreCounters, counted_loops}
 use Rattle.stub_writer.specs.Stubs.{out_of_reach}
 use Rattle.rewritten_runs.specs.Stubs.{IsWeighed, HasStubsWith, rewritten_file, stored_weights}
-use Rattle.marked_images.specs.declared.scaling.Marked.{Marked}
+use Rattle.marked_images.specs.declared.stubs.Marked.{Marked}
 use Rattle.marked_images.specs.declared.stubs.Marking.{Marking}
 use Rattle.marked_images.specs.Scalings.{IsUnfit}
 use Rattle.marked_images.specs.Stored.{IsStubbedProgram, by_deadline, rewritten_summary, unless_out_of_reach}
@@ -57,7 +58,7 @@ rewritten_of power image notes v t plain answer plain_are h =
     let wanted = wanted_by_slack power image v t plain in
     let same = marks_are power image v t plain in
     let stubs = subst (λ (marked : ℕ → List Mark). HasStubsWith power (tables.meets_both power) image v t marked h.stored h.extra h.least h.sites h.base) same
-    (subst (λ (test : tables.EdgeNumbers → ℕ → ℕ → Bool). HasStubsWith power test image v t (marked_where v t wanted) h.stored h.extra h.least h.sites h.base) (test_is power h.start (h.stored.worst 0)) h.stubs) in
+    (subst (λ (test : EdgeNumbers → ℕ → ℕ → Bool). HasStubsWith power test image v t (marked_where v t wanted) h.stored h.extra h.least h.sites h.base) (test_is power h.start (h.stored.worst 0)) h.stubs) in
     let answer_is = subst (λ (marked : ℕ → List Mark). answer ≡ unless_out_of_reach (out_of_reach h.base h.sites) (rewritten_file image h.sites h.base h.start, rewritten_summary power v marked h.start (h.stored.worst 0) (h.extra.worst 0) h.sites)) same h.answer_is in
     inr (inr (inr (inr (inr (record {
       code = v;

@@ -1,6 +1,7 @@
 -- What `hold` gives: the image with an empty keyed segment, which starts it at the slowest level at which its worst case is in time.
 -- It is a relation, since a refusal may name any of several cycles.
 use Rattle.std.specs.Prelude.{◌≡◌, ◌⊎◌, ℕ, nat_lt, if◌then◌else◌, List, [], Option, Some, None, Result, Ok, Err}
+use Rattle.scale_base.specs.declared.limits.TheConstants.{CYCLE_LIMIT}
 use Rattle.scale_base.specs.declared.refusal.Refusal.{Refusal}
 use Rattle.scale_base.specs.declared.refusal.Refusal.TheVariants.{DeadlineMissed, TooLong}
 use Rattle.scale_base.specs.declared.summary.Summary.{Summary}
@@ -49,7 +50,7 @@ held_at power image worst = held_from power image worst (slowest_of power worst)
 
 -- at most 2^48 worst cycles are held
 abbrev pub held_within : PowerModel → Image → ℕ → Result (List ℕ × Summary) Refusal
-held_within power image worst = if nat_lt 281474976710656 worst then Err TooLong else held_at power image worst
+held_within power image worst = if nat_lt CYCLE_LIMIT worst then Err TooLong else held_at power image worst
 
 -- ---- what the program of an image and its loops give
 

@@ -2,6 +2,7 @@
 -- which its worst case, stubs and all, is in time.
 -- It is a relation, as what `hold` gives.
 use Rattle.std.specs.Prelude.{◌≡◌, ◌⊎◌, ℕ, ◌<◌, ◌≤◌, List, Some, None, Result, Err}
+use Rattle.scale_base.specs.declared.limits.TheConstants.{CYCLE_LIMIT}
 use Rattle.scale_base.specs.declared.refusal.Refusal.{Refusal}
 use Rattle.scale_base.specs.declared.refusal.Refusal.TheVariants.{DeadlineMissed, TooLong}
 use Rattle.scale_base.specs.declared.summary.Summary.{Summary}
@@ -30,7 +31,7 @@ pub record IsTooLong (power : PowerModel) (image : Image) (notes : List LoopNote
   pub plain : Numbers
   pub stored : Numbers
   pub weighed : IsWeighed power image notes code tree plain stored
-  pub long : 281474976710656 < stored.worst 0
+  pub long : CYCLE_LIMIT < stored.worst 0
   pub answer_is : answer ≡ Err TooLong
 
 -- they are in range, and even at the fastest level too late
@@ -40,7 +41,7 @@ pub record IsTooLate (power : PowerModel) (image : Image) (notes : List LoopNote
   pub plain : Numbers
   pub stored : Numbers
   pub weighed : IsWeighed power image notes code tree plain stored
-  pub short : stored.worst 0 ≤ 281474976710656
+  pub short : stored.worst 0 ≤ CYCLE_LIMIT
   pub late : slowest_of power (stored.worst 0) ≡ None
   pub answer_is : answer ≡ Err (DeadlineMissed (time_at power (fastest power) (stored.worst 0)) power.deadline)
 
@@ -56,7 +57,7 @@ pub record IsProgramRewritten (power : PowerModel) (image : Image) (notes : List
   pub base : ℕ
   pub start : ℕ
   pub weighed : IsWeighed power image notes code tree plain stored
-  pub short : stored.worst 0 ≤ 281474976710656
+  pub short : stored.worst 0 ≤ CYCLE_LIMIT
   pub slow : slowest_of power (stored.worst 0) ≡ Some start
   pub stubs : HasStubs power image code tree plain stored extra least sites base
   pub answer_is : answer ≡ unless_out_of_reach (out_of_reach base sites) (

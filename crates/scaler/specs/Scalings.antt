@@ -1,5 +1,6 @@
 -- Scaffold: what the parts of `rewrite` find, on the way to what it gives.
 use Rattle.std.specs.Prelude.{◌≡◌, ℕ, ◌<◌, ◌&&◌, nat_le, false, List, Result, Ok, Err}
+use Rattle.scale_base.specs.declared.limits.TheConstants.{CYCLE_LIMIT}
 use Rattle.scale_base.specs.declared.refusal.Refusal.{Refusal}
 use Rattle.scale_base.specs.declared.refusal.Refusal.TheVariants.{TooLong}
 use Rattle.scale_base.specs.Image.{Image, image_of}
@@ -15,7 +16,7 @@ use Rattle.worst_cycles.specs.Worst.{slack_at}
 use Rattle.rewritten_runs.specs.Stubs.{plain_weights}
 use Rattle.answer_parts.specs.Parts.{unscaled}
 use Rattle.marked_images.specs.declared.stubs.Marking.{Marking}
-use Rattle.marked_images.specs.declared.scaling.Marked.{Marked}
+use Rattle.marked_images.specs.declared.stubs.Marked.{Marked}
 use Rattle.marked_images.specs.declared.scaling.Program.{Program}
 use Rattle.marked_images.specs.Scalings.{HasMarks, IsMarked, IsMarkingFound, IsScaled}
 use Rattle.marked_images.specs.Stored.{by_deadline}
@@ -39,7 +40,7 @@ abbrev pub AreSitesFound : PowerModel → Image → FlowGraph → LoopView → R
 AreSitesFound power image v t (Ok s) = (plain : Numbers) × ArePlain power image v t plain ×
     HasMarks v t (wanted_by_slack power image v t plain) s
 AreSitesFound power image v t (Err refusal) = (refusal ≡ TooLong) × ((plain : Numbers) × ArePlain power image v t plain ×
-    (281474976710656 < plain.worst 0))
+    (CYCLE_LIMIT < plain.worst 0))
 
 -- ---- the numbers
 

@@ -11,12 +11,12 @@ use elf_image::ImageView;
 use elf_patch::{stub_base, write_image};
 use power_model::Power;
 use program_sources::Sources;
-use scale_base::{NoMemory, Stop, Summary};
+use scale_base::{FILE_LIMIT, IMAGE_LIMIT, NoMemory, Stop, Summary};
 use std::alloc::Global;
 
 /// The image with an empty keyed segment and a starting level.
 fn held_file(alloc: Global, view: &ImageView<'_>, start: u8) -> Result<Vec<u8>, NoMemory>
-    requires file { length view.now.file ≤ 4194304 }
+    requires file { length view.now.file ≤ IMAGE_LIMIT }
     requires no_key { view.now.keyed_segment ≡ None }
     ensures { IfOk result (λ out. out.items ≡ held.held_file view.now start) }
 {
@@ -44,7 +44,7 @@ fn held_summary(power: &Power, worst: u64, start: u8) -> Summary
 
 /// The program of three files at the slowest level that is safe.
 fn hold_program(alloc: Global, sources: &Sources<'_>) -> Result<(Vec<u8>, Summary), Stop>
-    requires file { length sources.now.view.file ≤ 4194304 }
+    requires file { length sources.now.view.file ≤ IMAGE_LIMIT }
     requires no_key { sources.now.view.keyed_segment ≡ None }
     ensures { AnswersBy (λ given. (given.0.items, given.1)) result (held.IsHeldProgram sources.now.power sources.now.view
         sources.now.notes) }
@@ -69,9 +69,9 @@ pub fn hold(
     machine: &[u8],
     loops: &[u8],
 ) -> Result<(Vec<u8>, Summary), Stop>
-    requires image { length image.now ≤ 4194304 }
-    requires machine { length machine.now ≤ 1048576 }
-    requires loops { length loops.now ≤ 1048576 }
+    requires image { length image.now ≤ IMAGE_LIMIT }
+    requires machine { length machine.now ≤ FILE_LIMIT }
+    requires loops { length loops.now ≤ FILE_LIMIT }
     ensures given { AnswersBy (λ given. (given.0.items, given.1)) result (held.IsHeld image.now machine.now loops.now) }
 
     // The stored image runs as the original one does, on every input, and its kept runs end within the printed time.

@@ -12,6 +12,8 @@ ghost use Rattle.scaler.specs.RewrittenAs.{IsRewrittenAs};
 ghost use Rattle.scaler.specs.RewrittenRuns.{IsRewrittenSafely};
 ghost use Rattle.scaler.specs.Runs.{IsHeldSafely};
 
+use scale_base::{FILE_LIMIT, IMAGE_LIMIT};
+
 mod holding;
 mod lines;
 mod planning;
@@ -29,16 +31,16 @@ pub use timing::TimedProgram;
 /// as that run keeps the loops' bounds and the return addresses it takes at most the printed cycles, at most the printed time,
 /// which is at most the deadline, and its held energy; and it ends.
 pub fn held_images_are_safe()
-    ensures { (image machine loops stored : List ℕ) (summary : Summary) → length image ≤ 4194304 → length machine ≤ 1048576 →
-        length loops ≤ 1048576 → IsHeld image machine loops (Ok ((stored, summary))) → IsHeldSafely image machine loops stored summary }
+    ensures { (image machine loops stored : List ℕ) (summary : Summary) → length image ≤ IMAGE_LIMIT → length machine ≤ FILE_LIMIT →
+        length loops ≤ FILE_LIMIT → IsHeld image machine loops (Ok ((stored, summary))) → IsHeldSafely image machine loops stored summary }
 {}
 
 /// What `rewrite` stores is safe: on every input on which the original run exits and keeps the loops' bounds and the return addresses,
 /// its run gives the same output and the same status, ends by the deadline, never raises its level, takes no more energy than its own
 /// cycles at its starting level, and adds at most the printed number of cycles; and it follows the original run in time, step by step.
 pub fn rewritten_images_are_safe()
-    ensures { (image machine loops stored : List ℕ) (summary : Summary) → length image ≤ 4194304 → length machine ≤ 1048576 →
-        length loops ≤ 1048576 → IsRewritten image machine loops (Ok ((stored, summary))) →
+    ensures { (image machine loops stored : List ℕ) (summary : Summary) → length image ≤ IMAGE_LIMIT → length machine ≤ FILE_LIMIT →
+        length loops ≤ FILE_LIMIT → IsRewritten image machine loops (Ok ((stored, summary))) →
         IsRewrittenSafely image machine loops stored summary }
 {}
 
@@ -47,7 +49,7 @@ pub fn rewritten_images_are_safe()
 /// raises its level, takes no more energy than its own cycles at its starting level, and adds at most the printed number of cycles.
 pub fn images_rewritten_as_are_safe()
     ensures { (image machine loops : List ℕ) (min_gain : ℕ) (counters : Bool) (stored : List ℕ) (summary : Summary) →
-        length image ≤ 4194304 → length machine ≤ 1048576 → length loops ≤ 1048576 →
+        length image ≤ IMAGE_LIMIT → length machine ≤ FILE_LIMIT → length loops ≤ FILE_LIMIT →
         IsRewrittenAs image machine loops min_gain counters (Ok ((stored, summary))) → IsStoredSafely image machine loops stored summary }
 {}
 

@@ -5,9 +5,7 @@ ghost use Rattle.scaler.specs.Planned.{loop_number};
 ghost use Rattle.marked_images.specs.Markings.{HasMarking};
 ghost use Rattle.scaler.specs.Lines.{IsOfLoop, ArePushedAt, AreLinesOf};
 
-use flow_graph::CodeGraph;
-use loop_forest::LoopTree;
-use marked_images::{Marking, fragment_of};
+use marked_images::{Marked, fragment_of};
 use power_model::Power;
 use scale_base::{Fragment, NoMemory, SiteLine};
 use scale_sites::CounterList;
@@ -33,19 +31,18 @@ fn loop_number(counters: &CounterList, fragment: &Fragment) -> u32
 fn push_lines(
     lines: &mut Vec<SiteLine>,
     power: &Power,
-    graph: &CodeGraph,
-    tree: &LoopTree,
-    marking: &Marking,
+    marked: &Marked,
     e: usize,
 ) -> Result<(), NoMemory>
-    requires marking { HasMarking power.now graph.now tree.now marking.now }
-    requires few { length tree.now.headers ≤ 4096 }
-    requires edge { e < length graph.now.code.edges }
-    ensures { OnOk result (ArePushedAt power.now graph.now tree.now marking.now e lines.old.items lines.new.items) }
+    requires marking { HasMarking power.now marked.now.graph marked.now.tree marked.now.marking }
+    requires few { length marked.now.tree.headers ≤ 4096 }
+    requires edge { e < length marked.now.graph.code.edges }
+    ensures { OnOk result (ArePushedAt power.now marked.now.graph marked.now.tree marked.now.marking e lines.old.items lines.new.items) }
 {
-    let edge = graph.edge(e);
+    let marking = &marked.marking;
+    let edge = marked.graph.edge(e);
     for mark in marking.sites.marks(e) {
-        let fragment = fragment_of(power, graph, tree, marking, e, *mark);
+        let fragment = fragment_of(power, marked, e, *mark);
         lines.push(SiteLine {
             edge,
             loop_no: loop_number(&marking.counters, &fragment),
@@ -56,20 +53,14 @@ fn push_lines(
 }
 
 /// A line for each fragment of each edge, in the edges' order.
-pub fn site_lines(
-    alloc: Global,
-    power: &Power,
-    graph: &CodeGraph,
-    tree: &LoopTree,
-    marking: &Marking,
-) -> Result<Vec<SiteLine>, NoMemory>
-    requires marking { HasMarking power.now graph.now tree.now marking.now }
-    requires few { length tree.now.headers ≤ 4096 }
-    ensures { IfOk result (λ lines. AreLinesOf power.now graph.now tree.now marking.now lines.items) }
+pub fn site_lines(alloc: Global, power: &Power, marked: &Marked) -> Result<Vec<SiteLine>, NoMemory>
+    requires marking { HasMarking power.now marked.now.graph marked.now.tree marked.now.marking }
+    requires few { length marked.now.tree.headers ≤ 4096 }
+    ensures { IfOk result (λ lines. AreLinesOf power.now marked.now.graph marked.now.tree marked.now.marking lines.items) }
 {
     let mut lines = Vec::new(alloc);
-    for e in 0..graph.edge_count() {
-        push_lines(&mut lines, power, graph, tree, marking, e)?;
+    for e in 0..marked.graph.edge_count() {
+        push_lines(&mut lines, power, marked, e)?;
     }
     Ok(lines)
 }

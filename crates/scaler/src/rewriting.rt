@@ -20,10 +20,10 @@ use flow_graph::CodeGraph;
 use loop_file::LoopNotes;
 use loop_forest::LoopTree;
 use loop_tree::build_loops;
-use marked_images::{Marked, Marking, Program, marking_with, scaling_of, stored_file};
+use marked_images::{EdgeMarks, Marked, Marking, Program, marking_with, scaling_of, stored_file};
 use power_model::Power;
 use program_sources::Sources;
-use scale_base::{Stop, Summary};
+use scale_base::{FILE_LIMIT, IMAGE_LIMIT, Stop, Summary};
 use scale_sites::{CounterList, Sites, choose, counters};
 use std::alloc::Global;
 use worst_cycles::worst;
@@ -62,7 +62,7 @@ fn marking_of(
         (scalings.IsMarkingBySlack power.now image graph.now tree.now) }
 {
     let sites = sites_of(alloc, graph, tree, &counters, power)?;
-    marking_with(alloc, graph, tree, counters, sites, power)
+    marking_with(alloc, power, graph, tree, EdgeMarks { counters, sites })
 }
 
 /// The marks of the program of an image, if it is in time with them.
@@ -96,7 +96,7 @@ fn rewrite_marked(
     marked: &Marked,
 ) -> Result<(Vec<u8>, Summary), Stop>
     requires read { image_of view.now.file ≡ Ok view.now }
-    requires file { length view.now.file ≤ 4194304 }
+    requires file { length view.now.file ≤ IMAGE_LIMIT }
     requires no_key { view.now.keyed_segment ≡ None }
     requires power { IsPowerModel power.now }
     requires marked { (notes : List LoopNote) × scalings.IsMarkedBySlack power.now view.now notes marked.now }
@@ -116,7 +116,7 @@ pub fn rewrite_program(
     notes: &LoopNotes,
 ) -> Result<(Vec<u8>, Summary), Stop>
     requires read { image_of view.now.file ≡ Ok view.now }
-    requires file { length view.now.file ≤ 4194304 }
+    requires file { length view.now.file ≤ IMAGE_LIMIT }
     requires no_key { view.now.keyed_segment ≡ None }
     requires power { IsPowerModel power.now }
     ensures { AnswersBy (λ given. (given.0.items, given.1)) result (rewritten.IsRewrittenProgram power.now view.now notes.now) }
@@ -160,9 +160,9 @@ pub fn rewrite(
     machine: &[u8],
     loops: &[u8],
 ) -> Result<(Vec<u8>, Summary), Stop>
-    requires image { length image.now ≤ 4194304 }
-    requires machine { length machine.now ≤ 1048576 }
-    requires loops { length loops.now ≤ 1048576 }
+    requires image { length image.now ≤ IMAGE_LIMIT }
+    requires machine { length machine.now ≤ FILE_LIMIT }
+    requires loops { length loops.now ≤ FILE_LIMIT }
     ensures given { AnswersBy (λ given. (given.0.items, given.1)) result (rewritten.IsRewritten image.now machine.now loops.now) }
 
     // On each input on which the original run exits and is kept, the stored run keeps the promise; and it follows the original in time.

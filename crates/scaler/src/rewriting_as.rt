@@ -9,7 +9,7 @@ use crate::rewriting::rewrite_program;
 use loop_file::LoopNotes;
 use power_model::Power;
 use program_sources::Sources;
-use scale_base::{Stop, Summary};
+use scale_base::{FILE_LIMIT, IMAGE_LIMIT, Stop, Summary};
 use std::alloc::Global;
 
 /// The machine with another number of cycles of slack from which on an edge gets a switch.
@@ -41,9 +41,9 @@ pub fn rewrite_as(
     min_gain: u32,
     counters: bool,
 ) -> Result<(Vec<u8>, Summary), Stop>
-    requires image { length image.now ≤ 4194304 }
-    requires machine { length machine.now ≤ 1048576 }
-    requires loops { length loops.now ≤ 1048576 }
+    requires image { length image.now ≤ IMAGE_LIMIT }
+    requires machine { length machine.now ≤ FILE_LIMIT }
+    requires loops { length loops.now ≤ FILE_LIMIT }
     ensures given { AnswersBy (λ given. (given.0.items, given.1)) result (variant.IsRewrittenAs image.now machine.now loops.now min_gain
         counters) }
 

@@ -1,5 +1,6 @@
 -- Scaffold: an image that is held at one level: it is stored with an empty block and no patch.
 use Rattle.std.specs.Prelude.{◌≡◌, ℕ, ◌≤◌, ◌<◌, ◌^◌, List, [], length, Some, None, Ok}
+use Rattle.scale_base.specs.declared.limits.TheConstants.{IMAGE_LIMIT}
 use Rattle.scale_base.specs.Image.{Image, image_of, contents, loaded_byte}
 use Rattle.scale_base.specs.Layout.{layout_of}
 use Rattle.elf_patch.specs.Stored.{stored_image, held_base}
@@ -21,6 +22,6 @@ pub record IsHeldImage (file : List ℕ) (image : Image) (base start : ℕ) (hel
 -- a starting level: of the file, its image, the base of the empty block, the level, and the held image.
 abbrev pub OfHeldImages : (List ℕ → Image → ℕ → ℕ → Image → Type 0) → Type 0
 OfHeldImages P =
-    (file : List ℕ) (image : Image) (start : ℕ) → image_of file ≡ Ok image → image.keyed_segment ≡ None → length file ≤ 4194304 →
+    (file : List ℕ) (image : Image) (start : ℕ) → image_of file ≡ Ok image → image.keyed_segment ≡ None → length file ≤ IMAGE_LIMIT →
     start < 2 ^ 32
     → P file image (held_base image) start (contents (empty_block_file file (held_base image) start))

@@ -1,5 +1,6 @@
 -- Scaffold: the image that a stored file is read as.
 use Rattle.std.specs.Prelude.{◌≡◌, ℕ, ◌+◌, ◌^◌, ◌<◌, ◌≤◌, length, List, [], ◌∷◌, map, All, IsTrue, nat_le, if◌then◌else◌, Some, None, slice_range}
+use Rattle.scale_base.specs.declared.limits.TheConstants.{BLOCK_LIMIT, IMAGE_LIMIT}
 use Rattle.scale_base.specs.declared.ranges.Patch.{Patch}
 use Rattle.scale_base.specs.Spans.{round_up}
 use Rattle.scale_base.specs.Image.{Image, LoadSegment, is_word_address, KEYED_FLAGS}
@@ -7,11 +8,11 @@ use Rattle.elf_patch.specs.Stored.{IsStubBase}
 
 -- what may be stored of an image: patches on words of its text, and a block at its base
 pub record IsStorable (image : Image) (patches : List Patch) (base : ℕ) (block : List ℕ) (start : ℕ) : Type 0 where
-  pub file : length image.file ≤ 4194304
+  pub file : length image.file ≤ IMAGE_LIMIT
   pub no_key : image.keyed_segment ≡ None
   pub words : All (λ p. IsTrue (is_word_address image p.at)) patches
   pub place : IsStubBase image (length block) base
-  pub block_short : length block ≤ 4194304
+  pub block_short : length block ≤ BLOCK_LIMIT
   pub start_small : start < 2 ^ 32
 
 -- a segment with its bytes from another file

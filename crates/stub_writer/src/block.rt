@@ -12,15 +12,15 @@ use crate::stubs::{marked, push_stub, stub_len, stub_reaches, stub_rows_len};
 use crate::ways::{jump, reaches};
 use crate::words::push_word;
 use rv_encode::encode;
-use scale_base::{EdgeKind, Fragment, Instr, NoMemory, Patch, Refusal, Rows, Stop};
+use scale_base::{EdgeKind, Fragment, Instr, NoMemory, Patch, Refusal, Rows, Stop, WORD_LIMIT};
 use std::alloc::Global;
 
 /// The length of all stubs, in words.
 fn stubs_len(list: &[StubSite]) -> u64
-    requires few { length list.now ≤ 131072 }
+    requires few { length list.now ≤ WORD_LIMIT }
     requires each { All sites.IsSite list.now }
     ensures is { result ≡ stubs.stubs_len (map sites.site_of list.now) }
-    ensures small { result ≤ 547 * 131072 }
+    ensures small { result ≤ 547 * WORD_LIMIT }
 {
     let mut len = 0;
     for site in list {
@@ -31,10 +31,10 @@ fn stubs_len(list: &[StubSite]) -> u64
 
 /// The number of all rows.
 fn block_rows_len(list: &[StubSite]) -> u64
-    requires few { length list.now ≤ 131072 }
+    requires few { length list.now ≤ WORD_LIMIT }
     requires each { All sites.IsSite list.now }
     ensures is { result ≡ length (stubs.block_rows (map sites.site_of list.now)) }
-    ensures small { result ≤ 544 * 131072 }
+    ensures small { result ≤ 544 * WORD_LIMIT }
 {
     let mut len = 0;
     for site in list {
@@ -45,7 +45,7 @@ fn block_rows_len(list: &[StubSite]) -> u64
 
 /// The length of the block, in bytes.
 pub fn block_len(list: &[StubSite]) -> u32
-    requires few { length list.now ≤ 131072 }
+    requires few { length list.now ≤ WORD_LIMIT }
     requires each { All sites.IsSite list.now }
     ensures { result ≡ stubs.block_size (map sites.site_of list.now) }
 {
@@ -62,7 +62,7 @@ fn is_near(site: &StubSite, at: u64) -> bool
 
 /// The least instruction of which a jump to or from its stub does not fit.
 fn out_of_reach(list: &[StubSite], base: u32) -> Option<u32>
-    requires few { length list.now ≤ 131072 }
+    requires few { length list.now ≤ WORD_LIMIT }
     requires each { All sites.IsSite list.now }
     ensures { result ≡ stubs.out_of_reach base (map sites.site_of list.now) }
 {
@@ -78,7 +78,7 @@ fn out_of_reach(list: &[StubSite], base: u32) -> Option<u32>
 
 /// Adds the code of the stubs, of which the rows begin at `table`.
 fn push_stubs(out: &mut Vec<u8>, base: u32, table: u64, list: &[StubSite]) -> Result<(), NoMemory>
-    requires few { length list.now ≤ 131072 }
+    requires few { length list.now ≤ WORD_LIMIT }
     requires each { All sites.IsSite list.now }
     requires near { stubs.out_of_reach base (map sites.site_of list.now) ≡ None }
     requires table { table ≤ 2 ^ 34 }
@@ -167,7 +167,7 @@ fn jump_word(from: u64, to: u64) -> u32
 }
 
 fn push_patches(out: &mut Vec<Patch>, base: u32, list: &[StubSite]) -> Result<(), NoMemory>
-    requires few { length list.now ≤ 131072 }
+    requires few { length list.now ≤ WORD_LIMIT }
     requires each { All sites.IsSite list.now }
     requires near { stubs.out_of_reach base (map sites.site_of list.now) ≡ None }
     ensures { OnOk result (out.new.items ≡ out.old.items ++ stubs.patches_from base (map sites.site_of list.now)) }
@@ -185,7 +185,7 @@ fn push_patches(out: &mut Vec<Patch>, base: u32, list: &[StubSite]) -> Result<()
 
 /// The block of the stubs at the base, and the patches.
 fn block(alloc: Global, list: &[StubSite], base: u32) -> Result<StubBlock, NoMemory>
-    requires few { length list.now ≤ 131072 }
+    requires few { length list.now ≤ WORD_LIMIT }
     requires each { All sites.IsSite list.now }
     requires near { stubs.out_of_reach base (map sites.site_of list.now) ≡ None }
     ensures bytes { IfOk result (λ made. made.bytes.items ≡ stubs.block_bytes base (map sites.site_of list.now)) }
@@ -203,7 +203,7 @@ fn block(alloc: Global, list: &[StubSite], base: u32) -> Result<StubBlock, NoMem
 /// The block of the stubs at the base, and the patches. `StubOutOfReach` names the first marked instruction in the list of which
 /// a jump to or from its stub is too far for JAL: the least one where the sites ascend, which is not asked for.
 pub fn emit(alloc: Global, list: &[StubSite], base: u32) -> Result<StubBlock, Stop>
-    requires few { length list.now ≤ 131072 }
+    requires few { length list.now ≤ WORD_LIMIT }
     requires each { All sites.IsSite list.now }
     ensures { Answers block_view result (emitted base (map sites.site_of list.now)) }
 {

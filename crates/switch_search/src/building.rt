@@ -1,12 +1,13 @@
 //! What the stubs of a set of marks do, as they are built.
 
 ghost use Rattle.std.specs.Prelude.{◌≤◌, length, IfOk};
+ghost use Rattle.scale_base.specs.declared.limits.TheConstants.{FILE_LIMIT, IMAGE_LIMIT};
 
 use crate::sets::MarkSet;
 use marked_images::Scaling;
 use paced_images::{Proposal, SwitchSite, program_of};
 use run_traces::{Candidate, LoopPlan, Numbers, Watched};
-use scale_base::{Edge, Fragment, NoMemory, Stop};
+use scale_base::{Edge, FILE_LIMIT, Fragment, IMAGE_LIMIT, NoMemory, Stop};
 use std::alloc::Global;
 use stub_writer::{StubEdge, StubSite};
 
@@ -16,9 +17,9 @@ pub struct Files<'a> {
     pub image: &'a [u8],
     pub machine: &'a [u8],
     pub loops: &'a [u8],
-    ghost short_image: { length image.now ≤ 4194304 },
-    ghost short_machine: { length machine.now ≤ 1048576 },
-    ghost short_loops: { length loops.now ≤ 1048576 },
+    ghost short_image: { length image.now ≤ IMAGE_LIMIT },
+    ghost short_machine: { length machine.now ≤ FILE_LIMIT },
+    ghost short_loops: { length loops.now ≤ FILE_LIMIT },
 }
 
 /// What the candidates and the loops are.
@@ -319,16 +320,8 @@ pub fn scaling_of(
     files: &Files<'_>,
     proposal: &Proposal,
 ) -> Result<Option<Scaling>, NoMemory> {
-    match program_of(
-        alloc,
-        files.image,
-        files.machine,
-        files.loops,
-        &proposal.sites,
-        proposal.counted,
-        &proposal.tallied,
-        proposal.share,
-    ) {
+    let marks = proposal.marks();
+    match program_of(alloc, files.image, files.machine, files.loops, &marks) {
         Ok(program) => Ok(Some(program.scaling)),
         Err(Stop::Memory) => Err(NoMemory),
         Err(Stop::Refused(_)) => Ok(None),

@@ -36,16 +36,8 @@ fn useful(
     files: &Files<'_>,
     proposal: &Proposal,
 ) -> Result<Option<KeptMarks>, NoMemory> {
-    match useful_marks(
-        alloc,
-        files.image,
-        files.machine,
-        files.loops,
-        &proposal.sites,
-        proposal.counted,
-        &proposal.tallied,
-        proposal.share,
-    ) {
+    let marks = proposal.marks();
+    match useful_marks(alloc, files.image, files.machine, files.loops, &marks) {
         Ok(kept) => Ok(Some(kept)),
         Err(Stop::Refused(_)) => Ok(None),
         Err(Stop::Memory) => Err(NoMemory),

@@ -2,7 +2,7 @@
 
 ghost use Rattle.std.specs.Prelude.{◌<◌, ◌^◌, IfSome};
 
-use level_tables::{LevelBudgets, entry_within};
+use level_tables::LevelBudgets;
 use power_model::Power;
 use run_traces::{EdgeNumbers, StubCosts, may_switch};
 use scale_base::EdgeKind;
@@ -118,8 +118,12 @@ pub fn entry(power: &Power, start: u8, worst: u64, mark: &Mark) -> u8 {
             let mut budgets = LevelBudgets::alike(power.deadline);
             budgets.start = start;
             budgets.first = first;
-            let least = small(mark.least);
-            entry_within(power, &budgets, start, mark.slack, mark.left, least)
+            let numbers = level_tables::EdgeNumbers {
+                slack: mark.slack,
+                left: mark.left,
+                least: small(mark.least),
+            };
+            numbers.entry_within(power, &budgets, start)
         }
         _ => start,
     }

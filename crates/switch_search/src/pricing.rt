@@ -16,8 +16,8 @@ struct Event {
     again: bool,
 }
 
-/// What the search knows: the files, the machine, the program, the candidates, the runs, the starting level and the energy of the runs there; and which sets
-/// it has priced, and how many more it may.
+/// What the search knows: the files, the machine, the program, the candidates, the runs, the cycles of the shortest run on an input, the starting level and
+/// the energy of the runs there; and which sets it has priced, and how many more it may.
 #[derive(Drop)]
 pub struct Search<'a> {
     pub alloc: Global,
@@ -26,10 +26,23 @@ pub struct Search<'a> {
     pub costs: StubCosts,
     pub places: Places<'a>,
     pub runs: &'a [RunMarks],
+    pub shortest: u64,
     pub start: u8,
     pub held: u128,
     pub known: Vec<Priced>,
     pub tries: usize,
+}
+
+/// The cycles of the shortest of some runs that is one on an input; none where none is.
+pub fn shortest_of(runs: &[RunMarks]) -> u64 {
+    let mut shortest: Option<u64> = None;
+    for marks in runs {
+        if marks.run.is_input {
+            let least = shortest.unwrap_or(u64::MAX);
+            shortest = Some(marks.run.cycles.min(least));
+        }
+    }
+    shortest.unwrap_or(0)
 }
 
 /// Whether each mark of a set can lower a level.
@@ -163,15 +176,26 @@ impl<'a> Search<'a> {
 
     /// Whether a set is out by a run on an input: its stubs take more than so many thousandths of the run's cycles, and it doesn't save at least as much as
     /// they take.
-    fn is_out(&self, set: &MarkSet, run: &RunMarks, energy: u128) -> bool {
-        let level = self.start;
+    fn wastes(&self, set: &MarkSet, run: &RunMarks, energy: u128) -> bool {
         let cycles = run.run.cycles;
         let stubs = self.stub_cycles(set, run, 0, cycles.saturating_add(1));
         let few = u128::from(stubs).saturating_mul(1000) <= u128::from(cycles).saturating_mul(FEW);
-        let unit = energy_at(self.power, level);
-        let held = u128::from(cycles).saturating_mul(unit);
-        let spent = energy.saturating_add(u128::from(stubs).saturating_mul(unit));
-        run.run.is_input && !few && spent > held
+        let spent = energy.saturating_add(self.held_energy(stubs));
+        run.run.is_input && !few && spent > self.held_energy(cycles)
+    }
+
+    /// Whether a set is out by a run: this takes more with it than without, by more than so many thousandths of its own energy, or of that of a run that
+    /// is a tenth as long as the shortest on an input, where that is more. What a stub takes that is passed once counts for nothing.
+    fn loses(&self, run: &RunMarks, energy: u128) -> bool {
+        let cycles = run.run.cycles;
+        let lost = energy.saturating_sub(self.held_energy(cycles));
+        let usual = self.held_energy(cycles.max(self.shortest / 10));
+        lost > self.held_energy(ONCE) && lost.saturating_mul(1000) > usual.saturating_mul(MOST_LOST)
+    }
+
+    /// The energy of so many cycles at the starting level.
+    fn held_energy(&self, cycles: u64) -> u128 {
+        u128::from(cycles).saturating_mul(energy_at(self.power, self.start))
     }
 
     /// The energy of the runs with the stubs of a set, by their weights: more than any takes where that of one is out.
@@ -179,7 +203,7 @@ impl<'a> Search<'a> {
         let mut energy: u128 = 0;
         for run in self.runs {
             let own = self.run_energy(set, acts, run)?;
-            if self.is_out(set, run, own) {
+            if self.wastes(set, run, own) || self.loses(run, own) {
                 return Ok(u128::MAX);
             }
             energy = energy.saturating_add(own.saturating_mul(u128::from(run.run.weight)));
@@ -242,3 +266,9 @@ impl<'a> Search<'a> {
 
 /// How many thousandths of its cycles the stubs of a run may take where they save nothing.
 const FEW: u128 = 18;
+
+/// How many thousandths more a run may take with the stubs of a set than without.
+const MOST_LOST: u128 = 30;
+
+/// So many cycles at the starting level may be lost in any run: about what one stub takes that is passed once.
+const ONCE: u64 = 16;

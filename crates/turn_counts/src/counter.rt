@@ -1,12 +1,9 @@
 //! Counts, in one run after another, how often loops are entered, and the turns of each entry.
 
-use scale_base::{Move, NoMemory, Range, Stepped};
+use scale_base::{Move, NoMemory, RETURN_LIMIT, Range, Stepped};
 use speed_sim::Watches;
 use std::alloc::Global;
 use std::marker::Model;
-
-/// So many calls that are open are kept: as many as a kept run may have.
-const MOST_RETURNS: usize = 131_072;
 
 /// So many slots there are: words of as many in a row have slots of their own.
 const SLOTS: u32 = 65_536;
@@ -100,7 +97,7 @@ impl<'a> TurnCounter<'a> {
         Ok(TurnCounter {
             loops,
             slots: slots_of(alloc, loops)?,
-            returns: Vec::with_capacity(alloc, MOST_RETURNS)?,
+            returns: Vec::with_capacity(alloc, RETURN_LIMIT)?,
             open: vec![in alloc; None; loops.len()]?,
             turns: vec![in alloc; LoopTurns::none(); loops.len()]?,
             at: 0,
@@ -209,7 +206,7 @@ impl<'a> TurnCounter<'a> {
 
     // Counts a call, which is no turn of any loop.
     fn call(&mut self, step: &Stepped) {
-        if self.returns.len() < MOST_RETURNS && self.returns.push(step.pc.wrapping_add(4)).is_ok() {
+        if self.returns.len() < RETURN_LIMIT && self.returns.push(step.pc.wrapping_add(4)).is_ok() {
             self.arrive(step.next, None);
         } else {
             self.is_lost = true;

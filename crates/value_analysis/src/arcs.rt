@@ -18,6 +18,21 @@ const FEW: u64 = 2;
 /// How far past a threshold a step may go.
 const NEAR: u64 = 2048;
 
+/// How often an interval grows before thresholds that are less far are passed over, since they may be the ends of what grows with it, and before those of its
+/// register alone are looked at.
+const APART_FROM: u8 = 8;
+
+const APART: u64 = 4;
+
+const OWN_FROM: u8 = 20;
+
+/// Thresholds, and how far they are at least.
+#[derive(Clone, Copy)]
+struct Ends<'a> {
+    thresholds: &'a [Threshold],
+    least: u64,
+}
+
 // Whether an interval is short enough to be kept.
 fn is_short(a: Arc) -> bool
     ensures { result ≡ true → IsKept a }
@@ -132,12 +147,12 @@ pub fn joined(a: Option<Arc>, b: Option<Arc>) -> Option<Arc> {
 }
 
 // How far below the first number of an interval the nearest threshold is, rounded to the interval's stride.
-fn nearest_below(arc: Arc, whose: Whose, thresholds: &[Threshold]) -> Option<u64> {
+fn nearest_below(arc: Arc, whose: Whose, ends: &Ends<'_>) -> Option<u64> {
     let mut nearest = None;
     let stride = arc.stride().max(1);
-    for threshold in thresholds {
+    for threshold in ends.thresholds {
         let far = ahead(u64::from(threshold.word), arc.low());
-        if threshold.is_for(whose) && far < FAR {
+        if threshold.is_for(whose) && ends.least <= far && far < FAR {
             nearest = lesser(nearest, far - far % stride);
         }
     }
@@ -145,13 +160,14 @@ fn nearest_below(arc: Arc, whose: Whose, thresholds: &[Threshold]) -> Option<u64
 }
 
 // How far behind the first number of an interval the nearest threshold is that isn't before its last, rounded so.
-fn nearest_above(arc: Arc, whose: Whose, thresholds: &[Threshold]) -> Option<u64> {
+fn nearest_above(arc: Arc, whose: Whose, ends: &Ends<'_>) -> Option<u64> {
     let mut nearest = None;
     let stride = arc.stride().max(1);
-    for threshold in thresholds {
+    let least = arc.more().saturating_add(ends.least);
+    for threshold in ends.thresholds {
         let far = ahead(arc.low(), u64::from(threshold.word));
         let whole = far - far % stride;
-        if threshold.is_for(whose) && whole >= arc.more() && whole - arc.more() < FAR {
+        if threshold.is_for(whose) && whole >= least && whole - arc.more() < FAR {
             nearest = lesser(nearest, whole);
         }
     }
@@ -227,61 +243,67 @@ pub fn stretched_to(old: Arc, new: Arc) -> Option<Arc> {
 }
 
 // How far below its first number an interval that has grown begins.
-fn before_of(old: Arc, new: Arc, whose: Whose, thresholds: &[Threshold]) -> Option<u64> {
+fn before_of(old: Arc, new: Arc, whose: Whose, ends: &Ends<'_>) -> Option<u64> {
     if new.low() == old.low() {
         Some(0)
     } else {
-        nearest_below(new, whose, thresholds)
+        nearest_below(new, whose, ends)
     }
 }
 
 // How far behind its first number it ends.
-fn more_of(old: Arc, new: Arc, whose: Whose, thresholds: &[Threshold]) -> Option<u64> {
+fn more_of(old: Arc, new: Arc, whose: Whose, ends: &Ends<'_>) -> Option<u64> {
     if ahead(new.low(), old.low()).saturating_add(old.more()) >= new.more() {
         Some(new.more())
     } else {
-        nearest_above(new, whose, thresholds)
+        nearest_above(new, whose, ends)
     }
 }
 
 // How far below its first number an interval that is to grow begins: at a threshold of the register, where it does if one is near, or at another's.
-fn any_before(old: Arc, new: Arc, register: u8, thresholds: &[Threshold]) -> Option<u64> {
-    let own = before_of(old, new, Whose::Of(register), thresholds);
-    if own.is_none() && is_near(new.low(), register, thresholds) {
+fn any_before(old: Arc, new: Arc, register: u8, ends: &Ends<'_>) -> Option<u64> {
+    let own = before_of(old, new, Whose::Of(register), ends);
+    if own.is_none() && is_near(new.low(), register, ends.thresholds) {
         return Some(0);
     }
-    own.or(before_of(old, new, Whose::OfAny, thresholds))
+    own.or(before_of(old, new, Whose::OfAny, ends))
 }
 
 // And how far behind it ends.
-fn any_more(old: Arc, new: Arc, register: u8, thresholds: &[Threshold]) -> Option<u64> {
-    let own = more_of(old, new, Whose::Of(register), thresholds);
+fn any_more(old: Arc, new: Arc, register: u8, ends: &Ends<'_>) -> Option<u64> {
+    let own = more_of(old, new, Whose::Of(register), ends);
     let last = new.low().saturating_add(new.more());
-    if own.is_none() && is_near(last, register, thresholds) {
+    if own.is_none() && is_near(last, register, ends.thresholds) {
         return Some(new.more());
     }
-    own.or(more_of(old, new, Whose::OfAny, thresholds))
+    own.or(more_of(old, new, Whose::OfAny, ends))
 }
 
-/// An interval that has grown is stretched to the next threshold on each side on which it has: to one of the register, else by nothing where one is near or
-/// to one of another register if those are asked for, or to all words where there is none.
+/// An interval that has grown so often is stretched to the next threshold on each side on which it has: to one of the register, else by nothing where one is near
+/// or to one of another register, or to all words where there is none. In the end those of the register alone are looked at.
 pub fn widened(
     old: Arc,
     new: Arc,
     register: u8,
-    others: bool,
+    count: u8,
     thresholds: &[Threshold],
 ) -> Option<Arc> {
     let own = Whose::Of(register);
-    let (before, more) = if others {
+    let least = if (APART_FROM..OWN_FROM).contains(&count) {
+        APART
+    } else {
+        0
+    };
+    let ends = Ends { thresholds, least };
+    let (before, more) = if count < OWN_FROM {
         (
-            any_before(old, new, register, thresholds),
-            any_more(old, new, register, thresholds),
+            any_before(old, new, register, &ends),
+            any_more(old, new, register, &ends),
         )
     } else {
         (
-            before_of(old, new, own, thresholds),
-            more_of(old, new, own, thresholds),
+            before_of(old, new, own, &ends),
+            more_of(old, new, own, &ends),
         )
     };
     match (before, more) {

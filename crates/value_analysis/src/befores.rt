@@ -3,33 +3,14 @@
 use scale_base::{ImmOp, Instr, RegOp};
 use wrapped_intervals::Measure;
 
-/// A multiple of a register and a number.
-#[derive(Clone, Copy)]
-struct Term {
-    register: u8,
-    factor: u32,
-    shift: u32,
-}
-
-// The term of a measure that an instruction leaves, and the factor of the register that it writes. None where it writes both, or neither.
-fn parted(m: Measure, rd: u8) -> Option<(Term, u32)> {
-    let shift = m.shift;
-    if m.register == rd && m.other != rd {
-        let rest = Term {
-            register: m.other,
-            factor: m.other_factor,
-            shift,
-        };
-        Some((rest, m.factor))
-    } else if m.other == rd && m.register != rd {
-        let rest = Term {
-            register: m.register,
-            factor: m.factor,
-            shift,
-        };
-        Some((rest, m.other_factor))
-    } else {
-        None
+/// The same sum, the other way round.
+pub fn turned(m: Measure) -> Measure {
+    Measure {
+        register: m.other,
+        factor: m.other_factor,
+        other: m.register,
+        other_factor: m.factor,
+        shift: m.shift,
     }
 }
 
@@ -44,57 +25,56 @@ fn single(register: u8, factor: u32, shift: u32) -> Measure {
     }
 }
 
-// The measure in which the register that is written, so many times, is another one and a number.
-fn replaced(m: Measure, rd: u8, rs: u8, imm: u32) -> Option<Measure> {
-    let (rest, factor) = parted(m, rd)?;
-    let shift = rest.shift.wrapping_add(factor.wrapping_mul(imm));
-    if rest.register == rs {
-        return Some(single(rs, factor.wrapping_add(rest.factor), shift));
-    }
-    Some(if m.register == rd {
+// What a measure is whose first register is another one, and a number.
+fn replaced(m: Measure, rs: u8, imm: u32) -> Measure {
+    let shift = m.shift.wrapping_add(m.factor.wrapping_mul(imm));
+    if m.other == rs {
+        single(rs, m.factor.wrapping_add(m.other_factor), shift)
+    } else {
         Measure {
             register: rs,
             shift,
             ..m
         }
-    } else {
-        Measure {
-            other: rs,
-            shift,
-            ..m
-        }
-    })
+    }
 }
 
-// The measure of a sum of two registers, of which it has one as often away.
-fn summed(m: Measure, rd: u8, rs1: u8, rs2: u8) -> Option<Measure> {
-    let (rest, factor) = parted(m, rd)?;
-    if factor.wrapping_add(rest.factor) != 0 {
+// The same, where its first register is a sum of two, of which it has one as often away.
+fn summed(m: Measure, rs1: u8, rs2: u8) -> Option<Measure> {
+    if m.factor.wrapping_add(m.other_factor) != 0 {
         None
-    } else if rest.register == rs1 {
-        Some(single(rs2, factor, rest.shift))
-    } else if rest.register == rs2 {
-        Some(single(rs1, factor, rest.shift))
+    } else if m.other == rs1 {
+        Some(single(rs2, m.factor, m.shift))
+    } else if m.other == rs2 {
+        Some(single(rs1, m.factor, m.shift))
     } else {
         None
     }
 }
 
-/// What a measure is before an instruction that writes one of its registers, as a measure, where that is known.
-pub fn before(m: Measure, i: Instr) -> Option<Measure> {
+// What a measure is before an instruction that writes its first register, and not the other one.
+fn first_before(m: Measure, i: Instr) -> Option<Measure> {
     match i {
         Instr::Imm {
             op: ImmOp::Addi,
             rd,
             rs1,
             imm,
-        } => replaced(m, rd, rs1, imm.cast_unsigned()),
+        } if rd == m.register && rd != m.other => Some(replaced(m, rs1, imm.cast_unsigned())),
         Instr::Reg {
             op: RegOp::Add,
             rd,
             rs1,
             rs2,
-        } => summed(m, rd, rs1, rs2),
+        } if rd == m.register && rd != m.other => summed(m, rs1, rs2),
         _ => None,
+    }
+}
+
+/// What a measure is before an instruction that writes one of its registers, as a measure, where that is known.
+pub fn before(m: Measure, i: Instr) -> Option<Measure> {
+    match first_before(m, i) {
+        Some(first) => Some(first),
+        None => Some(turned(first_before(turned(m), i)?)),
     }
 }

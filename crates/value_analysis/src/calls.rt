@@ -6,7 +6,7 @@ use crate::apart::{is_below, opposite_of};
 use crate::names::{begun_names, name_of, offset_of};
 use crate::passing::Step;
 use crate::rows::{passed_row, unknown};
-use crate::states::{Seen, State};
+use crate::states::{Facts, State};
 use crate::stores::{arc_of, span_of};
 use crate::tables::Row;
 use scale_base::Instr;
@@ -14,8 +14,8 @@ use stack_tables::Name;
 use wrapped_intervals::{Arc, keeps, word};
 
 /// What flows into a function by a call. Whether a state goes there.
-pub fn enter(step: Step, from: Seen<'_>, to: &mut State) -> bool {
-    let Some(row) = passed_row(step.instr, step.at, step.next, from.row) else {
+pub fn enter(step: Step, from: &Facts, to: &mut State) -> bool {
+    let Some(row) = passed_row(step.instr, step.at, step.next, &from.row) else {
         return false;
     };
     to.row = row;
@@ -42,7 +42,7 @@ pub struct Callee<'a> {
 #[derive(Clone, Copy)]
 pub struct CallSite<'a> {
     pub instr: Instr,
-    pub from: Seen<'a>,
+    pub from: &'a Facts,
     pub begins: Option<Arc>,
     pub limit: usize,
 }
@@ -50,7 +50,7 @@ pub struct CallSite<'a> {
 impl CallSite<'_> {
     // How far x2 is below what it had when the function began.
     fn depth(&self) -> Option<u64> {
-        let offset = offset_of(name_of(self.from.names, 2))?;
+        let offset = offset_of(name_of(&self.from.names, 2))?;
         if is_below(self.begins, offset, 0) {
             Some(opposite_of(offset))
         } else {
@@ -70,9 +70,7 @@ impl CallSite<'_> {
             _ => 0,
         }
     }
-}
 
-impl CallSite<'_> {
     /// Whether the function gives a register back.
     pub fn is_restored(&self, callee: &Callee<'_>, r: u8) -> bool {
         let restored = callee.restored;
@@ -81,7 +79,7 @@ impl CallSite<'_> {
 
     fn arc(&self, callee: &Callee<'_>, r: u8) -> Option<Arc> {
         if self.is_restored(callee, r) {
-            arc_of(self.from.row, r)
+            arc_of(&self.from.row, r)
         } else {
             arc_of(callee.exit, r)
         }
@@ -92,7 +90,7 @@ impl CallSite<'_> {
         if !self.is_restored(callee, r) {
             return None;
         }
-        let name = name_of(self.from.names, r);
+        let name = name_of(&self.from.names, r);
         match name {
             Some(Name::OfWord(k, _)) if k as usize >= kept => None,
             _ => name,
@@ -101,7 +99,7 @@ impl CallSite<'_> {
 
     fn span(&self, callee: &Callee<'_>, r: u8) -> Option<Arc> {
         if self.is_restored(callee, r) {
-            span_of(self.from.spans, r)
+            span_of(&self.from.spans, r)
         } else {
             None
         }

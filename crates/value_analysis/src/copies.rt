@@ -43,10 +43,12 @@ fn is_join(program: &Program, k: usize) -> bool {
     }
 }
 
-/// The nodes behind a copy, as they are found, up to how many of them there is a test of the register that is copied, and of the copy; and whether ways have met,
-/// from where on neither register may be moved on: the distance of both would grow in a loop.
+/// The nodes behind a copy, which has a number of its own, as they are found, up to how many of them there is a test of the register that is copied, and of the copy;
+/// and whether ways have met, from where on neither register may be moved on: the distance of both would grow in a loop.
 #[derive(Drop)]
 struct Behind {
+    copy: Copied,
+    number: usize,
     nodes: Vec<usize>,
     tested_from: usize,
     tested_to: usize,
@@ -54,32 +56,32 @@ struct Behind {
 }
 
 impl Behind {
-    fn add(&mut self, seen: &mut [usize], k: usize, number: usize) -> Result<(), NoMemory> {
-        if k < seen.len() && seen[k] != number && self.nodes.len() < MOST_NODES {
-            seen[k] = number;
+    fn add(&mut self, seen: &mut [usize], k: usize) -> Result<(), NoMemory> {
+        if k < seen.len() && seen[k] != self.number && self.nodes.len() < MOST_NODES {
+            seen[k] = self.number;
             self.nodes.push(k)?;
         }
         Ok(())
     }
 
     // Notes a test at the node of a place.
-    fn note_test(&mut self, i: Instr, copy: Copied, place: usize) {
+    fn note_test(&mut self, i: Instr, place: usize) {
         if let Instr::Branch { rs1, rs2, .. } = i {
-            if rs1 == copy.from || rs2 == copy.from {
+            if rs1 == self.copy.from || rs2 == self.copy.from {
                 self.tested_from = place.saturating_add(1);
             }
-            if rs1 == copy.to || rs2 == copy.to {
+            if rs1 == self.copy.to || rs2 == self.copy.to {
                 self.tested_to = place.saturating_add(1);
             }
         }
     }
 
     // Whether an instruction makes something else of one of both registers, or moves it on where ways have met.
-    fn is_end(&self, i: Instr, copy: Copied) -> bool {
-        if keeps(copy.from, i) && keeps(copy.to, i) {
+    fn is_end(&self, i: Instr) -> bool {
+        if keeps(self.copy.from, i) && keeps(self.copy.to, i) {
             return false;
         }
-        self.joined || effect(difference(copy.to, copy.from), i).is_none()
+        self.joined || effect(difference(self.copy.to, self.copy.from), i).is_none()
     }
 
     // Looks at the node of a place.
@@ -87,9 +89,7 @@ impl Behind {
         &mut self,
         program: &Program,
         seen: &mut [usize],
-        copy: Copied,
         place: usize,
-        number: usize,
     ) -> Result<(), NoMemory> {
         let Some(k) = self.nodes.get(place).copied() else {
             return Ok(());
@@ -97,15 +97,15 @@ impl Behind {
         let Some(node) = program.node(k) else {
             return Ok(());
         };
-        self.note_test(node.instr, copy, place);
+        self.note_test(node.instr, place);
         self.joined = self.joined || is_join(program, k);
-        if self.is_end(node.instr, copy) {
+        if self.is_end(node.instr) {
             return Ok(());
         }
         for w in node.first..node.end {
             if let Some(way) = program.way(w) {
                 if let WayKind::Step = way.kind {
-                    self.add(seen, way.to, number)?;
+                    self.add(seen, way.to)?;
                 }
             }
         }
@@ -144,16 +144,18 @@ fn add_copy(
     let Some(copy) = program.node(k).and_then(|node| copy_of(node.instr)) else {
         return Ok(());
     };
-    let number = k.saturating_add(1);
+    let behind_it = k.saturating_add(1);
     let mut behind = Behind {
+        copy,
+        number: behind_it,
         nodes: Vec::new(alloc),
         tested_from: 0,
         tested_to: 0,
         joined: false,
     };
-    behind.add(seen, k.saturating_add(1), number)?;
+    behind.add(seen, behind_it)?;
     for place in 0..MOST_NODES {
-        behind.look_at(program, seen, copy, place, number)?;
+        behind.look_at(program, seen, place)?;
     }
     behind.want(forms, copy.to, copy.from, behind.tested_from)?;
     behind.want(forms, copy.from, copy.to, behind.tested_to)

@@ -6,13 +6,14 @@ use crate::apart::raised;
 use crate::arcs::holds;
 use crate::calls::{CallSite, Callee, come_back, enter};
 use crate::forms::Forms;
-use crate::joining::{Change, Counts, Pace, grow_arc, grow_plain_row, word_key};
+use crate::joining::{Change, Counts, Growing, Pace, grow_arc, grow_plain_row, word_key};
 use crate::lines::{Tracing, line_in};
-use crate::names::{begun_name, begun_names, name_of};
+use crate::names::{Names, begun_name, begun_names, name_of};
+use crate::orders::{leaving_order, places_of};
 use crate::passing::{Step, pass};
 use crate::program::{Node, Program};
 use crate::rows::{put_row, starting_row, unknown, zeros};
-use crate::states::{Seen, State, States, WORD_COUNT};
+use crate::states::{Facts, State, WORD_COUNT, facts_of};
 use crate::stores::arc_of;
 use crate::tables::Row;
 use crate::thresholds::{Threshold, add_ends};
@@ -52,19 +53,38 @@ impl Known {
         }
     }
 
-    fn begins(&self) -> Option<Arc> {
-        self.begins
-    }
-
     // Lets what x2 has when the function begins grow. Whether it did.
     fn grow_begins(&mut self, arc: &Option<Arc>, pace: Pace) -> bool {
-        if holds(self.begins(), *arc) {
+        if holds(self.begins, *arc) {
             return false;
         }
         let count = self.begin_count;
         self.begin_count = count.saturating_add(1);
-        self.begins = grow_arc(self.begins(), *arc, pace, count);
+        self.begins = grow_arc(self.begins, *arc, pace, count);
         true
+    }
+
+    // Lets the row at the function's returns grow. Whether it did.
+    fn grow_exit(&mut self, row: &Row, pace: Pace) -> bool {
+        if !self.returned {
+            self.returned = true;
+            put_row(&mut self.exit, row);
+            return true;
+        }
+        grow_plain_row(&mut self.exit, row, pace)
+    }
+
+    // Takes back what the function doesn't restore. Whether there was any.
+    fn take_back(&mut self, names: &Names) -> bool {
+        let mut taken = false;
+        for r in 1..32u8 {
+            let k = usize::from(r);
+            if self.restored[k] && names[k] != begun_name(r) {
+                self.restored[k] = false;
+                taken = true;
+            }
+        }
+        taken
     }
 }
 
@@ -75,15 +95,15 @@ pub struct Growth<'a> {
     pub forms: &'a Forms,
     /// By node.
     pub live: Vec<bool>,
-    pub states: States,
+    pub facts: Vec<Facts>,
     /// By function.
     pub known: Vec<Known>,
     /// By node, its place in the order in which nodes are left, and by place the node.
-    pub places: Vec<usize>,
+    places: Vec<usize>,
     pub order: Vec<usize>,
     /// By node.
     counts: Vec<Counts>,
-    pub thresholds: Vec<Vec<Threshold>>,
+    thresholds: Vec<Vec<Threshold>>,
     /// The places of the nodes that wait, and by node whether it does.
     queue: BinaryHeap<usize>,
     waits: Vec<bool>,
@@ -92,10 +112,10 @@ pub struct Growth<'a> {
     haste: usize,
 }
 
-/// No thresholds yet, by function.
-pub fn no_thresholds(alloc: Global, count: usize) -> Result<Vec<Vec<Threshold>>, NoMemory> {
+// By function, no thresholds yet.
+fn no_thresholds(alloc: Global, functions: usize) -> Result<Vec<Vec<Threshold>>, NoMemory> {
     let mut thresholds = Vec::new(alloc);
-    for _ in 0..count {
+    for _ in 0..functions {
         thresholds.push(Vec::new(alloc))?;
     }
     Ok(thresholds)
@@ -107,21 +127,20 @@ impl<'a> Growth<'a> {
         alloc: Global,
         program: &'a Program,
         forms: &'a Forms,
-        thresholds: Vec<Vec<Threshold>>,
-        order: Vec<usize>,
-        places: Vec<usize>,
     ) -> Result<Growth<'a>, NoMemory> {
         let nodes = program.nodes.len();
+        let functions = program.entries.len();
+        let order = leaving_order(alloc, program)?;
         Ok(Growth {
             program,
             forms,
             live: vec![in alloc; false; nodes]?,
-            states: States::new(alloc, nodes)?,
-            known: vec![in alloc; Known::best(); program.entries.len()]?,
-            places,
+            places: places_of(alloc, &order, nodes)?,
             order,
+            thresholds: no_thresholds(alloc, functions)?,
+            facts: facts_of(alloc, nodes, zeros())?,
+            known: vec![in alloc; Known::best(); functions]?,
             counts: vec![in alloc; Counts::none(); nodes]?,
-            thresholds,
             queue: BinaryHeap::new(alloc),
             waits: vec![in alloc; false; nodes]?,
             flowed: 0,
@@ -159,7 +178,7 @@ impl<'a> Growth<'a> {
         let known = self.known.get(node.function)?;
         Some(CallSite {
             instr: node.instr,
-            from: self.states.seen(k)?,
+            from: self.facts.get(k)?,
             begins: known.begins,
             limit: known.limit,
         })
@@ -188,18 +207,18 @@ impl<'a> Growth<'a> {
     }
 
     fn flow_by_step(&self, node: &Node, way: &Way, to: &mut State) -> bool {
-        let (Some(step), Some(seen)) = (self.step(node, way), self.states.seen(way.from)) else {
+        let (Some(step), Some(from)) = (self.step(node, way), self.facts.get(way.from)) else {
             return false;
         };
-        if !pass(step, seen, self.begins(node.function), to) {
+        if !pass(step, from, self.begins(node.function), to) {
             return false;
         }
-        self.trace(step, seen, way, to);
+        self.trace(step, from, way, to);
         true
     }
 
     // Puts what flows over a step of sums of two registers.
-    fn trace(&self, step: Step, from: Seen<'_>, way: &Way, to: &mut State) {
+    fn trace(&self, step: Step, from: &Facts, way: &Way, to: &mut State) {
         let tracing = Tracing {
             forms: self.forms,
             step,
@@ -210,13 +229,13 @@ impl<'a> Growth<'a> {
     }
 
     fn flow_by_call(&self, node: &Node, way: &Way, to: &mut State) -> bool {
-        let (Some(step), Some(seen)) = (self.step(node, way), self.states.seen(way.from)) else {
+        let (Some(step), Some(from)) = (self.step(node, way), self.facts.get(way.from)) else {
             return false;
         };
-        if !enter(step, seen, to) {
+        if !enter(step, from, to) {
             return false;
         }
-        self.trace(step, seen, way, to);
+        self.trace(step, from, way, to);
         to.solved = unknown();
         true
     }
@@ -243,7 +262,7 @@ impl<'a> Growth<'a> {
             if let Some(form) = self.forms.form(*j) {
                 let m = form.measure;
                 if site.is_restored(callee, m.register) && site.is_restored(callee, m.other) {
-                    to.lines.keep(*j, line_in(site.from.lines, *j));
+                    to.lines.keep(*j, line_in(&site.from.lines, *j));
                 }
             }
         }
@@ -293,28 +312,28 @@ impl<'a> Growth<'a> {
         let Some(node) = self.program.node(k) else {
             return Ok(none);
         };
-        if k >= self.counts.len() || k >= self.live.len() {
+        if k >= self.facts.len() || k >= self.counts.len() || k >= self.live.len() {
             return Ok(none);
         }
+        let f = node.function;
+        let begins = self.begins(f);
         if !self.live[k] {
             self.live[k] = true;
-            let begins = self.begins(node.function);
-            self.states.put(k, state, &begins)?;
+            self.facts[k].put(state, &begins)?;
             return Ok(Change {
                 grown: true,
                 dropped: false,
             });
         }
-        let f = node.function;
         if f >= self.thresholds.len() {
             return Ok(none);
         }
-        let begins = self.begins(f);
-        let counts = &mut self.counts[k];
-        Ok(
-            self.states
-                .grow(k, state, &begins, pace, counts, &self.thresholds[f]),
-        )
+        let growing = Growing {
+            pace,
+            begins,
+            thresholds: &self.thresholds[f],
+        };
+        Ok(self.facts[k].grow(state, &growing, &mut self.counts[k]))
     }
 
     // Has all from which a state comes to a node looked at again.
@@ -386,54 +405,19 @@ impl<'a> Growth<'a> {
         known.grow_begins(arc, pace)
     }
 
-    // Lets the row at a function's returns grow. Whether it did.
-    fn grow_exit(&mut self, f: usize, row: &Row) -> bool {
+    // Looks at a return.
+    fn look_at_return(&mut self, k: usize, f: usize) -> Result<(), NoMemory> {
         let pace = if self.flowed >= self.haste {
             Pace::Hasty
         } else {
             Pace::Joined
         };
-        if f >= self.known.len() {
-            return false;
-        }
-        let known = &mut self.known[f];
-        if !known.returned {
-            known.returned = true;
-            put_row(&mut known.exit, row);
-            return true;
-        }
-        grow_plain_row(&mut known.exit, row, pace)
-    }
-
-    // Takes back what a function doesn't restore. Whether there was any.
-    fn take_back(&mut self, f: usize, names: &[Option<Name>; 32]) -> bool {
-        if f >= self.known.len() {
-            return false;
-        }
-        let known = &mut self.known[f];
-        let mut taken = false;
-        for r in 1..32u8 {
-            let k = usize::from(r);
-            if known.restored[k] && names[k] != begun_name(r) {
-                known.restored[k] = false;
-                taken = true;
-            }
-        }
-        taken
-    }
-
-    // Looks at a return.
-    fn look_at_return(&mut self, k: usize, f: usize) -> Result<(), NoMemory> {
-        let mut row = zeros();
-        let mut names = [None; 32];
-        let Some(seen) = self.states.seen(k) else {
+        if k >= self.facts.len() || f >= self.known.len() {
             return Ok(());
-        };
-        put_row(&mut row, seen.row);
-        for r in 0..32 {
-            names[r] = seen.names[r];
         }
-        if self.grow_exit(f, &row) | self.take_back(f, &names) {
+        let facts = &self.facts[k];
+        let known = &mut self.known[f];
+        if known.grow_exit(&facts.row, pace) | known.take_back(&facts.names) {
             self.wait_for_calls(f)?;
         }
         Ok(())
@@ -441,10 +425,10 @@ impl<'a> Growth<'a> {
 
     // Looks at a call.
     fn look_at_call(&mut self, way: &Way, f: usize) -> Result<(), NoMemory> {
-        let Some(seen) = self.states.seen(way.from) else {
+        let Some(facts) = self.facts.get(way.from) else {
             return Ok(());
         };
-        let arc = arc_of(seen.row, 2);
+        let arc = arc_of(&facts.row, 2);
         let pace = self.pace(way);
         if self.grow_begins(f, &arc, pace) {
             self.wait_for_members(f)?;
@@ -487,7 +471,7 @@ impl<'a> Growth<'a> {
 
     // Takes the numbers with which a branch compares registers as thresholds.
     fn note_comparison(&mut self, k: usize) -> Result<(), NoMemory> {
-        let (Some(node), Some(seen)) = (self.program.node(k), self.states.seen(k)) else {
+        let (Some(node), Some(facts)) = (self.program.node(k), self.facts.get(k)) else {
             return Ok(());
         };
         if let Instr::Branch {
@@ -497,8 +481,8 @@ impl<'a> Growth<'a> {
             offset: _,
         } = node.instr
         {
-            let (first, second) = (arc_of(seen.row, rs1), arc_of(seen.row, rs2));
-            let (one, other) = (name_of(seen.names, rs1), name_of(seen.names, rs2));
+            let (first, second) = (arc_of(&facts.row, rs1), arc_of(&facts.row, rs2));
+            let (one, other) = (name_of(&facts.names, rs1), name_of(&facts.names, rs2));
             self.note_ends(node.function, rs1, one, &second)?;
             self.note_ends(node.function, rs2, other, &first)?;
         }

@@ -5,7 +5,7 @@ ghost use Rattle.std.specs.Prelude.{◌<◌};
 use crate::arcs::{holds, joined, shorter, stretched_to, widened};
 use crate::lines::{Flowing, Lines};
 use crate::names::{Names, name_span};
-use crate::states::{State, States, UNKNOWN_WORD, WORD_COUNT, name_arc};
+use crate::states::{Facts, State, UNKNOWN_WORD, WORD_COUNT, name_arc, word_at};
 use crate::tables::Row;
 use crate::thresholds::Threshold;
 use scale_base::NoMemory;
@@ -13,10 +13,8 @@ use stack_tables::{Name, Word};
 use value_checks::Line;
 use wrapped_intervals::{Arc, word};
 
-/// How often an interval grows before it is widened, before it is widened to thresholds of its register alone, and before it is widened to all words.
+/// How often an interval grows before it is widened, and before it is widened to all words.
 const WIDENED_FROM: u8 = 3;
-
-const OWN_FROM: u8 = 20;
 
 const ALL_FROM: u8 = 60;
 
@@ -55,6 +53,14 @@ pub enum Pace {
     Widened,
     /// Nothing is kept of what grows: there is no time for more.
     Hasty,
+}
+
+/// How what is known at a node grows: at which pace, by what x2 has when its function begins, and to which thresholds.
+#[derive(Clone, Copy)]
+pub struct Growing<'a> {
+    pub pace: Pace,
+    pub begins: Option<Arc>,
+    pub thresholds: &'a [Threshold],
 }
 
 /// How often the intervals at a node have grown, by the numbers of registers and words: at the ends of ways back, and at those of others; and how often
@@ -125,7 +131,7 @@ fn widened_by(old: Arc, both: Arc, count: u8, key: u8, thresholds: &[Threshold])
     if count < WIDENED_FROM {
         Some(both)
     } else if count < ALL_FROM {
-        widened(old, both, key, count < OWN_FROM, thresholds)
+        widened(old, both, key, count, thresholds)
     } else {
         word()
     }
@@ -135,13 +141,12 @@ fn widened_by(old: Arc, both: Arc, count: u8, key: u8, thresholds: &[Threshold])
 fn grown(
     old: Option<Arc>,
     new: Option<Arc>,
-    pace: Pace,
+    growing: &Growing<'_>,
     count: u8,
     key: u8,
-    thresholds: &[Threshold],
 ) -> Option<Arc> {
     let (before, both) = (old?, joined(old, new)?);
-    match pace {
+    match growing.pace {
         Pace::Joined => {
             if count < MOST_JOINS {
                 Some(both)
@@ -149,7 +154,7 @@ fn grown(
                 word()
             }
         }
-        Pace::Widened => widened_by(before, both, count, key, thresholds),
+        Pace::Widened => widened_by(before, both, count, key, growing.thresholds),
         Pace::Hasty => None,
     }
 }
@@ -163,34 +168,26 @@ fn grown_span(old: Option<Arc>, new: Option<Arc>, pace: Pace, count: u8) -> Opti
     }
 }
 
+/// Lets one interval grow.
+pub fn grow_arc(old: Option<Arc>, new: Option<Arc>, pace: Pace, count: u8) -> Option<Arc> {
+    let growing = Growing {
+        pace,
+        begins: None,
+        thresholds: &[],
+    };
+    grown(old, new, &growing, count, 0)
+}
+
 /// Lets the row at a function's returns, or at the start of a run, grow. Whether it did.
 pub fn grow_plain_row(row: &mut Row, other: &Row, pace: Pace) -> bool {
     let mut has_grown = false;
     for r in 1..32 {
         if !holds(row[r], other[r]) {
-            row[r] = grown(row[r], other[r], pace, 0, 0, &[]);
+            row[r] = grow_arc(row[r], other[r], pace, 0);
             has_grown = true;
         }
     }
     has_grown
-}
-
-/// Lets one interval grow.
-pub fn grow_arc(old: Option<Arc>, new: Option<Arc>, pace: Pace, count: u8) -> Option<Arc> {
-    grown(old, new, pace, count, 0, &[])
-}
-
-/// What is known of a word.
-pub fn arc_at(words: &[Word], k: usize) -> Option<Arc> {
-    words.get(k).copied().and_then(|word| word.arc)
-}
-
-fn name_at(words: &[Word], k: usize) -> Option<Name> {
-    words.get(k).copied().and_then(|word| word.name)
-}
-
-fn span_at(words: &[Word], k: usize) -> Option<Arc> {
-    words.get(k).copied().and_then(|word| word.span)
 }
 
 // Gives up the names that differ. Whether there were any.
@@ -221,22 +218,20 @@ fn join_word_names(words: &mut [Word], state: &State) -> bool {
 fn grow_words(
     words: &mut [Word],
     state: &State,
-    pace: Pace,
+    growing: &Growing<'_>,
     counts: &mut Counts,
-    thresholds: &[Threshold],
 ) -> bool {
     let mut has_grown = false;
     for k in 0..words.len() {
-        if !holds(arc_at(words, k), state.word(k).arc) {
+        if !holds(word_at(words, k).arc, state.word(k).arc) {
             let key = word_key(k);
-            let count = counts.count(pace, key);
+            let count = counts.count(growing.pace, key);
             words[k].arc = grown(
-                arc_at(words, k),
+                word_at(words, k).arc,
                 state.word(k).arc,
-                pace,
+                growing,
                 count,
                 key,
-                thresholds,
             );
             has_grown = true;
         }
@@ -248,11 +243,11 @@ fn grow_words(
 fn grow_word_spans(words: &mut [Word], state: &State, pace: Pace, counts: &mut Counts) -> bool {
     let mut has_grown = false;
     for k in 0..words.len() {
-        if !holds(span_at(words, k), state.word(k).span)
-            && !is_by_name(span_at(words, k), name_span(name_at(words, k)))
+        if !holds(word_at(words, k).span, state.word(k).span)
+            && !is_by_name(word_at(words, k).span, name_span(word_at(words, k).name))
         {
             let count = counts.count_span(word_key(k));
-            words[k].span = grown_span(span_at(words, k), state.word(k).span, pace, count);
+            words[k].span = grown_span(word_at(words, k).span, state.word(k).span, pace, count);
             has_grown = true;
         }
     }
@@ -273,13 +268,6 @@ fn hold_words(row: &mut Row, names: &Names, words: &[Word]) {
             }
         }
     }
-}
-
-/// How an interval grows, and how often it has.
-#[derive(Clone, Copy)]
-struct Turns {
-    pace: Pace,
-    count: u8,
 }
 
 /// What is known of the registers that flow to a node: their intervals, and those by their names and by sums of them with others.
@@ -335,28 +323,21 @@ impl Known<'_> {
     }
 }
 
-// What the interval of a register grows to.
+// What the interval of a register grows to that has grown so often.
 fn next_arc(
     known: Known<'_>,
     old: &Option<Arc>,
     r: u8,
-    turns: Turns,
-    thresholds: &[Threshold],
+    growing: &Growing<'_>,
+    count: u8,
 ) -> Option<Arc> {
     let k = usize::from(r);
     let renamed = known.renamed(old, k);
     if renamed.is_some() {
         return renamed;
     }
-    let new = grown(
-        *old,
-        known.shortest(k),
-        turns.pace,
-        turns.count,
-        r,
-        thresholds,
-    );
-    if turns.count < MOST_SOLVED {
+    let new = grown(*old, known.shortest(k), growing, count, r);
+    if count < MOST_SOLVED {
         known.resolved(old, &new, k)
     } else {
         new
@@ -364,20 +345,13 @@ fn next_arc(
 }
 
 // Lets the intervals of registers grow. Whether one did.
-fn grow_row(
-    row: &mut Row,
-    known: Known<'_>,
-    pace: Pace,
-    counts: &mut Counts,
-    thresholds: &[Threshold],
-) -> bool {
+fn grow_row(row: &mut Row, known: Known<'_>, growing: &Growing<'_>, counts: &mut Counts) -> bool {
     let mut has_grown = false;
     for r in 1..32u8 {
         let k = usize::from(r);
         if !known.is_held(&row[k], k) {
-            let count = counts.count(pace, r);
-            let turns = Turns { pace, count };
-            row[k] = next_arc(known, &row[k], r, turns, thresholds);
+            let count = counts.count(growing.pace, r);
+            row[k] = next_arc(known, &row[k], r, growing, count);
             has_grown = true;
         }
     }
@@ -410,10 +384,10 @@ fn telling_line(form: usize, arc: Option<Arc>) -> Option<Line> {
     }
 }
 
-// Lets a line grow to what flows. It is given up where nothing does.
-fn grow_line(line: &mut Line, flowing: &Option<Flowing>, turns: Turns) {
+// Lets a line that has grown so often grow to what flows. It is given up where nothing does.
+fn grow_line(line: &mut Line, flowing: &Option<Flowing>, pace: Pace, count: u8) {
     let grown = match flowing {
-        Some(flow) => grown_line(line.arc, flow.shortest(), turns.pace, turns.count),
+        Some(flow) => grown_line(line.arc, flow.shortest(), pace, count),
         None => None,
     };
     match telling_line(line.form, grown) {
@@ -437,8 +411,7 @@ fn grow_each_line(lines: &mut [Line], flowing: &Lines, pace: Pace, counts: &mut 
         let flow = flowing.of(lines[place].form);
         if !is_flow_held(&lines[place], &flow) {
             counts.lines = counts.lines.saturating_add(1);
-            let count = counts.lines;
-            grow_line(&mut lines[place], &flow, Turns { pace, count });
+            grow_line(&mut lines[place], &flow, pace, counts.lines);
             has_grown = true;
         }
     }
@@ -496,13 +469,6 @@ fn named_row(names: &Names, words: &[Word], begins: &Option<Arc>) -> Row {
     row
 }
 
-// Puts names in the place of others.
-fn put_names(names: &mut Names, other: &Names) {
-    for r in 0..32 {
-        names[r] = other[r];
-    }
-}
-
 // How many words of a state are known, up to the last one.
 fn known_count(state: &State) -> usize {
     let mut count = 0;
@@ -544,148 +510,61 @@ fn put_spans(spans: &mut Row, other: &Row, names: &Names) {
     }
 }
 
-impl States {
-    // The intervals of registers at a node by their names.
-    fn named(&self, k: usize, begins: &Option<Arc>) -> Row {
-        match self.seen(k) {
-            Some(seen) => named_row(seen.names, seen.words, begins),
-            None => [None; 32],
-        }
-    }
-
-    fn put_names(&mut self, k: usize, state: &State) {
-        if k < self.names.len() {
-            put_names(&mut self.names[k], &state.names);
-        }
-    }
-
-    fn put_words(&mut self, k: usize, state: &State) -> Result<(), NoMemory> {
-        match self.words.get_mut(k) {
-            Some(words) => put_words(words, state),
-            None => Ok(()),
-        }
-    }
-
-    fn put_row(&mut self, k: usize, state: &State, begins: &Option<Arc>) {
-        let named = self.named(k, begins);
-        if k < self.rows.len() {
-            let known = Known {
-                row: &state.row,
-                named: &named,
-                solved: &state.solved,
-            };
-            put_row(&mut self.rows[k], known);
-        }
-    }
-
-    fn put_spans(&mut self, k: usize, state: &State) {
-        if k < self.spans.len() && k < self.names.len() {
-            put_spans(&mut self.spans[k], &state.spans, &self.names[k]);
-        }
-    }
-
+impl Facts {
     /// Puts the first state that comes to a node there, by what x2 has when its function begins.
-    pub fn put(&mut self, k: usize, state: &State, begins: &Option<Arc>) -> Result<(), NoMemory> {
-        self.put_names(k, state);
-        self.put_words(k, state)?;
-        self.put_row(k, state, begins);
-        self.put_spans(k, state);
-        match self.lines.get_mut(k) {
-            Some(lines) => put_lines(lines, &state.lines),
-            None => Ok(()),
-        }
-    }
-
-    // Gives up the names that differ. Whether there were any.
-    fn drop_names(&mut self, k: usize, state: &State) -> bool {
-        let mut dropped = false;
-        if k < self.names.len() {
-            dropped = join_names(&mut self.names[k], &state.names);
-        }
-        if k < self.words.len() {
-            dropped = join_word_names(&mut self.words[k], state) || dropped;
-        }
-        dropped
-    }
-
-    // Lets the intervals of words grow. Whether one did.
-    fn grow_words(
-        &mut self,
-        k: usize,
-        state: &State,
-        pace: Pace,
-        counts: &mut Counts,
-        thresholds: &[Threshold],
-    ) -> bool {
-        if k >= self.words.len() || k >= self.rows.len() || k >= self.names.len() {
-            return false;
-        }
-        if !grow_words(&mut self.words[k], state, pace, counts, thresholds) {
-            return false;
-        }
-        self.hold_words(k);
-        true
-    }
-
-    fn hold_words(&mut self, k: usize) {
-        if k < self.words.len() && k < self.rows.len() && k < self.names.len() {
-            hold_words(&mut self.rows[k], &self.names[k], &self.words[k]);
-        }
-    }
-
-    // Lets the intervals of registers grow. Whether one did.
-    fn grow_row(
-        &mut self,
-        k: usize,
-        state: &State,
-        begins: &Option<Arc>,
-        pace: Pace,
-        counts: &mut Counts,
-        thresholds: &[Threshold],
-    ) -> bool {
-        let named = self.named(k, begins);
-        if k >= self.rows.len() {
-            return false;
-        }
+    pub fn put(&mut self, state: &State, begins: &Option<Arc>) -> Result<(), NoMemory> {
+        self.names = state.names;
+        put_words(&mut self.words, state)?;
+        let named = named_row(&self.names, &self.words, begins);
         let known = Known {
             row: &state.row,
             named: &named,
             solved: &state.solved,
         };
-        grow_row(&mut self.rows[k], known, pace, counts, thresholds)
+        put_row(&mut self.row, known);
+        put_spans(&mut self.spans, &state.spans, &self.names);
+        put_lines(&mut self.lines, &state.lines)
     }
 
-    // Lets spans grow. Whether one did.
-    fn grow_spans(&mut self, k: usize, state: &State, pace: Pace, counts: &mut Counts) -> bool {
-        let mut has_grown = false;
-        if k < self.words.len() {
-            has_grown = grow_word_spans(&mut self.words[k], state, pace, counts);
-        }
-        if k < self.spans.len() && k < self.names.len() {
-            let spans = &mut self.spans[k];
-            has_grown = grow_spans(spans, &self.names[k], &state.spans, pace, counts) || has_grown;
+    // Gives up the names that differ. Whether there were any.
+    fn drop_names(&mut self, state: &State) -> bool {
+        let dropped = join_names(&mut self.names, &state.names);
+        join_word_names(&mut self.words, state) || dropped
+    }
+
+    // Lets the intervals of words grow. Whether one did.
+    fn grow_words(&mut self, state: &State, growing: &Growing<'_>, counts: &mut Counts) -> bool {
+        let has_grown = grow_words(&mut self.words, state, growing, counts);
+        if has_grown {
+            hold_words(&mut self.row, &self.names, &self.words);
         }
         has_grown
     }
 
-    /// Joins another one to what is known there.
-    pub fn grow(
-        &mut self,
-        k: usize,
-        state: &State,
-        begins: &Option<Arc>,
-        pace: Pace,
-        counts: &mut Counts,
-        thresholds: &[Threshold],
-    ) -> Change {
-        let dropped = self.drop_names(k, state);
-        let words = self.grow_words(k, state, pace, counts, thresholds);
-        let row = self.grow_row(k, state, begins, pace, counts, thresholds);
-        let spans = self.grow_spans(k, state, pace, counts);
-        let lines = match self.lines.get_mut(k) {
-            Some(lines) => grow_lines(lines, &state.lines, pace, counts),
-            None => false,
+    // Lets the intervals of registers grow. Whether one did.
+    fn grow_row(&mut self, state: &State, growing: &Growing<'_>, counts: &mut Counts) -> bool {
+        let named = named_row(&self.names, &self.words, &growing.begins);
+        let known = Known {
+            row: &state.row,
+            named: &named,
+            solved: &state.solved,
         };
+        grow_row(&mut self.row, known, growing, counts)
+    }
+
+    // Lets spans grow. Whether one did.
+    fn grow_spans(&mut self, state: &State, pace: Pace, counts: &mut Counts) -> bool {
+        let words = grow_word_spans(&mut self.words, state, pace, counts);
+        grow_spans(&mut self.spans, &self.names, &state.spans, pace, counts) || words
+    }
+
+    /// Joins another state to what is known at the node.
+    pub fn grow(&mut self, state: &State, growing: &Growing<'_>, counts: &mut Counts) -> Change {
+        let dropped = self.drop_names(state);
+        let words = self.grow_words(state, growing, counts);
+        let row = self.grow_row(state, growing, counts);
+        let spans = self.grow_spans(state, growing.pace, counts);
+        let lines = grow_lines(&mut self.lines, &state.lines, growing.pace, counts);
         Change {
             grown: dropped || words || row || spans || lines,
             dropped,

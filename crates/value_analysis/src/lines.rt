@@ -4,19 +4,13 @@ ghost use Rattle.std.specs.Prelude.{◌≡◌, ◌<◌, length, true};
 
 use crate::apart::raised;
 use crate::arcs::{WORDS, kept, shorter};
-use crate::befores::before;
+use crate::befores::{before, turned};
 use crate::forms::{Forms, MOST_WANTED, is_same_sum};
 use crate::passing::Step;
 use crate::rows::{is_different, line_of_row, passed_word, solved_arc, unknown};
-use crate::states::{Seen, State};
+use crate::states::{Facts, State};
 use value_checks::Line;
 use wrapped_intervals::{Arc, Measure, effect, said_by};
-
-/// Whether lines are made of others by copies and sums.
-pub const MAKES_LINES: bool = true;
-
-/// Whether registers are taken from lines.
-pub const SOLVES_LINES: bool = true;
 
 /// The longest interval of a register by a line that says anything.
 const LONGEST: u64 = 0x4000_0000;
@@ -31,9 +25,9 @@ pub struct Flowing {
 }
 
 impl Flowing {
-    /// The shortest of them.
+    /// The shortest of them: of those that are as long as another, the one by what it was before, since a loop ends by what branches have taken from that.
     pub fn shortest(&self) -> Option<Arc> {
-        shorter(self.by_line, shorter(self.by_row, self.by_source))
+        shorter(shorter(self.by_row, self.by_source), self.by_line)
     }
 }
 
@@ -143,44 +137,24 @@ fn without(arc: Option<Arc>, n: u32) -> Option<Arc> {
     }
 }
 
-// The same sum, the other way round.
-fn turned(m: Measure) -> Measure {
-    Measure {
-        register: m.other,
-        factor: m.other_factor,
-        other: m.register,
-        other_factor: m.factor,
-        shift: m.shift,
-    }
-}
-
 /// A step from a node, and the forms that are looked for.
 #[derive(Clone, Copy)]
 pub struct Tracing<'a> {
     pub forms: &'a Forms,
     pub step: Step,
-    pub from: Seen<'a>,
+    pub from: &'a Facts,
 }
 
 impl Tracing<'_> {
     // The interval of a register behind the instruction.
     fn passed(&self, r: u8) -> Option<Arc> {
         let step = self.step;
-        passed_word(step.instr, step.at, step.next, self.from.row, r)
-    }
-
-    // What a measure is before the instruction.
-    fn before(&self, m: Measure) -> Option<Measure> {
-        if MAKES_LINES {
-            before(m, self.step.instr)
-        } else {
-            None
-        }
+        passed_word(step.instr, step.at, step.next, &self.from.row, r)
     }
 
     // The interval of a measure, by a line of it but for a number.
     fn line_of_measure(&self, m: Measure) -> Option<Arc> {
-        for line in self.from.lines {
+        for line in &self.from.lines {
             if let Some(more) = self.more_than(line.form, m) {
                 return raised(Some(line.arc), more);
             }
@@ -202,21 +176,21 @@ impl Tracing<'_> {
     fn by_line(&self, j: usize, m: Measure) -> Option<Arc> {
         match effect(m, self.step.instr) {
             Some(added) => {
-                let arc = raised(line_in(self.from.lines, j), added);
+                let arc = raised(line_in(&self.from.lines, j), added);
                 if added == 0 && self.differs(m) {
                     without(arc, m.shift)
                 } else {
                     arc
                 }
             }
-            None => self.line_of_measure(self.before(m)?),
+            None => self.line_of_measure(before(m, self.step.instr)?),
         }
     }
 
     // Whether the branch says that the registers differ.
     fn differs(&self, m: Measure) -> bool {
         let said = said_by(self.step.instr, self.step.at, self.step.next);
-        is_different(said, m, self.from.row)
+        is_different(said, m, &self.from.row)
     }
 
     // By the registers before the instruction.
@@ -224,7 +198,7 @@ impl Tracing<'_> {
         if effect(m, self.step.instr).is_some() {
             return None;
         }
-        line_of_row(self.before(m)?, self.from.row)
+        line_of_row(before(m, self.step.instr)?, &self.from.row)
     }
 
     // By the registers behind it.
@@ -275,10 +249,7 @@ impl Tracing<'_> {
 
     /// Puts what lines say of registers.
     pub fn put_solved(&self, to: &mut State) {
-        if !SOLVES_LINES {
-            return;
-        }
-        for line in self.from.lines {
+        for line in &self.from.lines {
             if let Some((r, arc)) = self.solved_by(line) {
                 let place = usize::from(r);
                 if place < 32 {

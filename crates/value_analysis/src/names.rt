@@ -54,11 +54,3 @@ pub fn begun_names() -> Names {
     }
     names
 }
-
-/// The number of the word of which a name is.
-pub fn word_of_name(name: Option<Name>) -> Option<usize> {
-    match name? {
-        Name::OfWord(word, _) => Some(word as usize),
-        Name::OfBegin(_, _) => None,
-    }
-}

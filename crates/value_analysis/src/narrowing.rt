@@ -5,11 +5,10 @@ ghost use Rattle.std.specs.Prelude.{◌<◌};
 use crate::arcs::{holds, joined, shorter};
 use crate::forms::MOST_WANTED;
 use crate::growing::{Growth, starting_state};
-use crate::joining::arc_at;
 use crate::names::Names;
 use crate::program::Program;
-use crate::rows::{join_row, narrow_row, put_row, unknown};
-use crate::states::{Seen, State, WORD_COUNT, flowing_arc};
+use crate::rows::{copy_of, join_row, narrow_row, put_row, unknown};
+use crate::states::{Facts, State, WORD_COUNT, flowing_arc, word_at};
 use crate::tables::Row;
 use crate::ways::WayKind;
 use scale_base::NoMemory;
@@ -76,9 +75,9 @@ impl Gathered {
     }
 
     // Takes one more.
-    fn add(&mut self, state: &State, seen: Seen<'_>, begins: &Option<Arc>) {
-        let row = named_row(state, seen.names, begins);
-        self.add_lines(state, seen.lines);
+    fn add(&mut self, state: &State, facts: &Facts, begins: &Option<Arc>) {
+        let row = named_row(state, &facts.names, begins);
+        self.add_lines(state, &facts.lines);
         if !self.found {
             self.put(state, &row);
             return;
@@ -99,12 +98,12 @@ fn gather(growth: &Growth<'_>, k: usize, state: &mut State) -> Gathered {
     let begins = program
         .node(k)
         .and_then(|node| growth.begins(node.function));
-    let Some(seen) = growth.states.seen(k) else {
+    let Some(facts) = growth.facts.get(k) else {
         return sum;
     };
     if k == program.start() {
         starting_state(state);
-        sum.add(state, seen, &begins);
+        sum.add(state, facts, &begins);
     }
     let mut next = program.last_way_to(k);
     for _ in 0..program.ways.len() {
@@ -112,7 +111,7 @@ fn gather(growth: &Growth<'_>, k: usize, state: &mut State) -> Gathered {
             break;
         };
         if growth.flow(&way, state) {
-            sum.add(state, seen, &begins);
+            sum.add(state, facts, &begins);
         }
         next = way.beside;
     }
@@ -123,7 +122,9 @@ fn gather(growth: &Growth<'_>, k: usize, state: &mut State) -> Gathered {
 fn narrow_words(words: &mut [Word], sum: &Gathered) {
     for k in 0..words.len() {
         if k < WORD_COUNT {
-            if holds(arc_at(words, k), sum.arc(k)) && !holds(sum.arc(k), arc_at(words, k)) {
+            if holds(word_at(words, k).arc, sum.arc(k))
+                && !holds(sum.arc(k), word_at(words, k).arc)
+            {
                 words[k].arc = sum.arc(k);
             }
         }
@@ -152,22 +153,18 @@ fn narrow_node(growth: &mut Growth<'_>, k: usize, state: &mut State) {
         return;
     }
     let sum = gather(growth, k, state);
-    if !sum.found {
-        if k < growth.live.len() {
-            growth.live[k] = false;
-        }
-        growth.states.forget(k);
+    if k >= growth.live.len() || k >= growth.facts.len() {
         return;
     }
-    if let Some(row) = growth.states.rows.get_mut(k) {
-        let _narrower = narrow_row(row, &sum.row);
+    let facts = &mut growth.facts[k];
+    if !sum.found {
+        growth.live[k] = false;
+        facts.forget();
+        return;
     }
-    if let Some(words) = growth.states.words.get_mut(k) {
-        narrow_words(words, &sum);
-    }
-    if let Some(lines) = growth.states.lines.get_mut(k) {
-        narrow_lines(lines, &sum);
-    }
+    narrow_row(&mut facts.row, &sum.row);
+    narrow_words(&mut facts.words, &sum);
+    narrow_lines(&mut facts.lines, &sum);
 }
 
 // The functions to which a node's ways return.
@@ -182,8 +179,7 @@ fn returns_to(growth: &Growth<'_>, k: usize) -> Option<usize> {
 // Joins a row to those at a function's returns.
 fn add_exit(exits: &mut [Option<Row>], f: usize, row: &Row) {
     if f < exits.len() {
-        let mut sum = unknown();
-        put_row(&mut sum, row);
+        let mut sum = copy_of(row);
         if let Some(before) = &exits[f] {
             join_row(&mut sum, before);
         }
@@ -195,8 +191,8 @@ fn add_exit(exits: &mut [Option<Row>], f: usize, row: &Row) {
 fn narrow_at(growth: &mut Growth<'_>, exits: &mut [Option<Row>], k: usize, state: &mut State) {
     narrow_node(growth, k, state);
     if let (Some(f), true) = (returns_to(growth, k), growth.is_live(k)) {
-        if let Some(row) = growth.states.rows.get(k) {
-            add_exit(exits, f, row);
+        if let Some(facts) = growth.facts.get(k) {
+            add_exit(exits, f, &facts.row);
         }
     }
 }
@@ -204,7 +200,7 @@ fn narrow_at(growth: &mut Growth<'_>, exits: &mut [Option<Row>], k: usize, state
 // Narrows the row at a function's returns.
 fn narrow_exit(growth: &mut Growth<'_>, f: usize, row: &Row) {
     if f < growth.known.len() {
-        let _narrower = narrow_row(&mut growth.known[f].exit, row);
+        narrow_row(&mut growth.known[f].exit, row);
     }
 }
 

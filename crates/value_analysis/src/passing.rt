@@ -6,7 +6,7 @@ use crate::apart::{raised, summed};
 use crate::arcs::{kept, shorter};
 use crate::names::{begun_name, name_of, offset_of, raised_name};
 use crate::rows::{passed_row, passed_word};
-use crate::states::{Seen, State, UNKNOWN_WORD};
+use crate::states::{Facts, State, UNKNOWN_WORD};
 use crate::stores::{Target, arc_of, loaded_word, span_of, stored_word, target_of};
 use scale_base::{ImmOp, Instr, RegOp};
 use stack_tables::{Name, Word};
@@ -24,7 +24,7 @@ pub struct Step {
 #[derive(Clone, Copy)]
 struct Passing<'a> {
     step: Step,
-    from: Seen<'a>,
+    from: &'a Facts,
     begins: Option<Arc>,
     target: Option<Target>,
     stored: Option<(usize, u8)>,
@@ -57,7 +57,7 @@ impl Passing<'_> {
 
     // The name of a register that is left.
     fn kept_name(&self, r: u8) -> Option<Name> {
-        let name = name_of(self.from.names, r);
+        let name = name_of(&self.from.names, r);
         match name {
             Some(Name::OfBegin(_, _)) => name,
             Some(Name::OfWord(k, _)) if self.misses(k as usize) => name,
@@ -68,7 +68,7 @@ impl Passing<'_> {
     // The name of a register that is stored.
     fn name_of_stored(&self, r: u8) -> Option<Name> {
         let (k, source) = self.stored?;
-        if source == r && arc_of(self.from.row, r).is_some() {
+        if source == r && arc_of(&self.from.row, r).is_some() {
             Some(Name::OfWord(u32::try_from(k).ok()?, 0))
         } else {
             None
@@ -77,18 +77,18 @@ impl Passing<'_> {
 
     // The name of a sum of registers.
     fn added_name(&self, rs1: u8, rs2: u8) -> Option<Name> {
-        let names = self.from.names;
-        if let Some(n) = only(arc_of(self.from.row, rs2)) {
+        let names = &self.from.names;
+        if let Some(n) = only(arc_of(&self.from.row, rs2)) {
             if let Some(name) = name_of(names, rs1) {
                 return raised_name(Some(name), n);
             }
         }
-        raised_name(name_of(names, rs2), only(arc_of(self.from.row, rs1))?)
+        raised_name(name_of(names, rs2), only(arc_of(&self.from.row, rs1))?)
     }
 
     // The name of a word that is loaded to a register: what is restored, and what points into the stack, has the name that the word has.
     fn loaded_name(&self, rd: u8) -> Option<Name> {
-        let k = loaded_word(self.step.instr, self.from.names)?;
+        let k = loaded_word(self.step.instr, &self.from.names)?;
         let name = self.from.word(k).name;
         if offset_of(name).is_some() || (name == begun_name(rd) && is_restorable(rd)) {
             return name;
@@ -104,7 +104,7 @@ impl Passing<'_> {
                 rd: _,
                 rs1,
                 imm,
-            } => raised_name(name_of(self.from.names, rs1), imm.cast_unsigned()),
+            } => raised_name(name_of(&self.from.names, rs1), imm.cast_unsigned()),
             Instr::Reg {
                 op: RegOp::Add,
                 rd: _,
@@ -133,8 +133,8 @@ impl Passing<'_> {
     fn added_span(&self, rs1: u8, rs2: u8) -> Option<Arc> {
         let from = self.from;
         shorter(
-            summed(span_of(from.spans, rs1), arc_of(from.row, rs2)),
-            summed(span_of(from.spans, rs2), arc_of(from.row, rs1)),
+            summed(span_of(&from.spans, rs1), arc_of(&from.row, rs2)),
+            summed(span_of(&from.spans, rs2), arc_of(&from.row, rs1)),
         )
     }
 
@@ -146,7 +146,7 @@ impl Passing<'_> {
                 rd: _,
                 rs1,
                 imm,
-            } => raised(span_of(self.from.spans, rs1), imm.cast_unsigned()),
+            } => raised(span_of(&self.from.spans, rs1), imm.cast_unsigned()),
             Instr::Reg {
                 op: RegOp::Add,
                 rd: _,
@@ -159,7 +159,7 @@ impl Passing<'_> {
                 rs1: _,
                 offset: _,
             } => {
-                let k = loaded_word(self.step.instr, self.from.names)?;
+                let k = loaded_word(self.step.instr, &self.from.names)?;
                 self.from.word(k).span
             }
             _ => None,
@@ -168,7 +168,7 @@ impl Passing<'_> {
 
     fn span(&self, r: u8) -> Option<Arc> {
         if keeps(r, self.step.instr) {
-            span_of(self.from.spans, r)
+            span_of(&self.from.spans, r)
         } else {
             self.written_span()
         }
@@ -176,14 +176,14 @@ impl Passing<'_> {
 
     // The word of a register that is stored. The name of another word is not kept.
     fn word_of(&self, r: u8) -> Word {
-        let name = match name_of(self.from.names, r) {
+        let name = match name_of(&self.from.names, r) {
             Some(Name::OfBegin(begun, more)) => Some(Name::OfBegin(begun, more)),
             _ => None,
         };
         Word {
-            arc: arc_of(self.from.row, r),
+            arc: arc_of(&self.from.row, r),
             name,
-            span: span_of(self.from.spans, r),
+            span: span_of(&self.from.spans, r),
         }
     }
 
@@ -213,13 +213,13 @@ impl Passing<'_> {
 
     // Takes what a branch says of a register, whose value comes from a word, for the word too.
     fn tie(&self, r: u8, to: &mut State) {
-        let Some(Name::OfWord(k, more)) = name_of(self.from.names, r) else {
+        let Some(Name::OfWord(k, more)) = name_of(&self.from.names, r) else {
             return;
         };
         let k = k as usize;
         if keeps(r, self.step.instr) && self.misses(k) {
             let step = self.step;
-            let arc = passed_word(step.instr, step.at, step.next, self.from.row, r);
+            let arc = passed_word(step.instr, step.at, step.next, &self.from.row, r);
             let mut word = to.word(k);
             word.arc = shorter(word.arc, raised(arc, more.wrapping_neg()));
             to.set_word(k, word);
@@ -228,16 +228,16 @@ impl Passing<'_> {
 }
 
 /// What an instruction that is no call leaves on the way to an address. Whether a state goes there.
-pub fn pass(step: Step, from: Seen<'_>, begins: Option<Arc>, to: &mut State) -> bool {
-    let Some(row) = passed_row(step.instr, step.at, step.next, from.row) else {
+pub fn pass(step: Step, from: &Facts, begins: Option<Arc>, to: &mut State) -> bool {
+    let Some(row) = passed_row(step.instr, step.at, step.next, &from.row) else {
         return false;
     };
     let passing = Passing {
         step,
         from,
         begins,
-        target: target_of(step.instr, from.row, from.names, from.spans),
-        stored: stored_word(step.instr, from.names),
+        target: target_of(step.instr, &from.row, &from.names, &from.spans),
+        stored: stored_word(step.instr, &from.names),
     };
     to.row = row;
     to.forget_lines();

@@ -4,9 +4,9 @@ ghost use Rattle.std.specs.Prelude.{◌≡◌, ◌<◌, length, true};
 ghost use Rattle.std.specs.List.{All};
 ghost use Rattle.wrapped_intervals.specs.Small.{IsKeptOr};
 
-use crate::arcs::{fewer, holds, joined, kept};
+use crate::arcs::{fewer, holds, joined, kept, shorter};
 use crate::tables::Row;
-use scale_base::Instr;
+use scale_base::{BranchOp, Instr};
 use wrapped_intervals::{
     Arc, Measure, Said, exactly, is_difference, is_impossible, is_kept, keeps, line_of, passed,
     said_by, solved,
@@ -58,17 +58,29 @@ fn are_kept(row: &[Option<Arc>]) -> bool
     true
 }
 
-// What an instruction leaves in a register on the way to an address. Where it leaves the register, what was there is known too.
+// Whether an instruction tells which one of two numbers is less.
+fn is_ordering(i: Instr) -> bool {
+    match i {
+        Instr::Branch { op, .. } => !matches!(&op, BranchOp::Beq | BranchOp::Bne),
+        _ => false,
+    }
+}
+
+// What an instruction leaves in a register on the way to an address. Where it leaves the register, what was there is known too: that may have a stride, which
+// a comparison takes away. The end that a comparison of which one is less gives says more than the stride: without it, a number to which more than 1 is added
+// goes past the end by a turn more each time that it is looked at.
 fn passed_arc(i: Instr, pc: u32, next: u32, from: &[Option<Arc>], r: u8) -> Option<Arc>
     requires size { length from.now ≡ 32 }
     requires kept { All IsKeptOr from.now }
     requires register { r < 32 }
 {
     let arc = kept(passed(i, pc, next, from, r));
-    if keeps(r, i) {
-        fewer(arc, from[usize::from(r)])
-    } else {
+    if !keeps(r, i) {
         arc
+    } else if is_ordering(i) {
+        shorter(arc, from[usize::from(r)])
+    } else {
+        fewer(arc, from[usize::from(r)])
     }
 }
 
@@ -129,13 +141,10 @@ pub fn join_row(row: &mut Row, other: &Row) {
 }
 
 /// Takes each interval of another row that this one's holds.
-pub fn narrow_row(row: &mut Row, other: &Row) -> bool {
-    let mut narrower = false;
+pub fn narrow_row(row: &mut Row, other: &Row) {
     for r in 1..32 {
         if holds(row[r], other[r]) && !holds(other[r], row[r]) {
             row[r] = other[r];
-            narrower = true;
         }
     }
-    narrower
 }

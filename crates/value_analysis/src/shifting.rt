@@ -5,18 +5,18 @@ ghost use Rattle.std.specs.Prelude.{◌<◌};
 use crate::apart::raised;
 use crate::forms::Forms;
 use crate::lines::line_in;
+use crate::states::Facts;
 use scale_base::NoMemory;
 use std::alloc::Global;
-use value_checks::Line;
 use wrapped_intervals::Measure;
 
 /// By family, what its forms are raised by.
-pub fn shifts_of(alloc: Global, forms: &Forms, lines: &[Vec<Line>]) -> Result<Vec<u32>, NoMemory> {
+pub fn shifts_of(alloc: Global, forms: &Forms, facts: &[Facts]) -> Result<Vec<u32>, NoMemory> {
     let mut shifts = Vec::new(alloc);
     for family in &forms.families {
-        let row = family.header.and_then(|header| lines.get(header));
-        let shift = match row {
-            Some(row) => match line_in(row, family.first) {
+        let at_header = family.header.and_then(|header| facts.get(header));
+        let shift = match at_header {
+            Some(known) => match line_in(&known.lines, family.first) {
                 Some(arc) => u32::try_from(arc.low()).unwrap_or(0).wrapping_neg(),
                 None => 0,
             },
@@ -49,9 +49,9 @@ pub fn measures_of(alloc: Global, forms: &Forms, shifts: &[u32]) -> Result<Vec<M
 }
 
 /// Raises lines by what their forms are raised by.
-pub fn shift_lines(forms: &Forms, shifts: &[u32], lines: &mut [Vec<Line>]) {
-    for row in lines.iter_mut() {
-        for line in row.iter_mut() {
+pub fn shift_lines(forms: &Forms, shifts: &[u32], facts: &mut [Facts]) {
+    for at_node in facts.iter_mut() {
+        for line in at_node.lines.iter_mut() {
             if let Some(arc) = raised(Some(line.arc), shift_of(forms, shifts, line.form)) {
                 line.arc = arc;
             }

@@ -56,11 +56,11 @@ fn kept_behind(growth: &Growth<'_>, way: &Way, f: usize) -> usize {
 // Where the words are that a call keeps, and that something is known of behind it.
 fn place_of(growth: &Growth<'_>, way: &Way, f: usize, begins: &Option<Arc>) -> Option<Arc> {
     let kept = kept_behind(growth, way, f);
-    let seen = growth.states.seen(way.to)?;
+    let facts = growth.facts.get(way.to)?;
     let mut place = None;
     for k in 0..kept.min(64) {
-        let word: Word = seen.word(k);
-        if word != UNKNOWN_WORD || is_named(seen.names, k) {
+        let word: Word = facts.word(k);
+        if word != UNKNOWN_WORD || is_named(&facts.names, k) {
             place = added(&place, &raised(*begins, word_offset(k)));
         }
     }
@@ -83,8 +83,8 @@ pub fn kept_place(growth: &Growth<'_>) -> Option<Arc> {
 
 // Where a node stores, if it does.
 fn target_at(growth: &Growth<'_>, node: &Node, k: usize) -> Option<Target> {
-    let seen = growth.states.seen(k)?;
-    target_of(node.instr, seen.row, seen.names, seen.spans)
+    let facts = growth.facts.get(k)?;
+    target_of(node.instr, &facts.row, &facts.names, &facts.spans)
 }
 
 // Whether a call is of a function that spares the words of those that wait.

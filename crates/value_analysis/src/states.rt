@@ -5,7 +5,7 @@ ghost use Rattle.std.specs.Prelude.{◌≡◌, ◌<◌};
 use crate::apart::raised;
 use crate::lines::Lines;
 use crate::names::Names;
-use crate::rows::{unknown, zeros};
+use crate::rows::{copy_of, unknown, zeros};
 use crate::tables::Row;
 use scale_base::NoMemory;
 use stack_tables::{Name, Word};
@@ -91,58 +91,56 @@ impl State {
     }
 }
 
-/// What is known at a node.
-#[derive(Clone, Copy)]
-pub struct Seen<'a> {
-    pub row: &'a Row,
-    pub names: &'a Names,
-    pub spans: &'a Row,
-    pub words: &'a [Word],
-    pub lines: &'a [Line],
+/// A word of those that are known.
+pub fn word_at(words: &[Word], k: usize) -> Word {
+    words.get(k).copied().unwrap_or(UNKNOWN_WORD)
 }
 
-impl Seen<'_> {
+/// What is known at a node, before its instruction.
+#[derive(Drop)]
+pub struct Facts {
+    pub row: Row,
+    pub names: Names,
+    pub spans: Row,
+    pub words: Vec<Word>,
+    pub lines: Vec<Line>,
+}
+
+impl Facts {
+    /// Lets the node be one to which no state comes.
+    pub fn forget(&mut self) {
+        self.row = zeros();
+        self.names = [None; 32];
+        self.spans = unknown();
+        self.words.clear();
+        self.lines.clear();
+    }
+
     /// A word.
     pub fn word(&self, k: usize) -> Word {
-        self.words.get(k).copied().unwrap_or(UNKNOWN_WORD)
+        word_at(&self.words, k)
     }
 }
 
-/// What is known at all nodes.
-#[derive(Drop)]
-pub struct States {
-    pub rows: Vec<Row>,
-    pub names: Vec<Names>,
-    pub spans: Vec<Row>,
-    pub words: Vec<Vec<Word>>,
-    pub lines: Vec<Vec<Line>>,
-}
-
-/// No words, by node.
-pub fn no_words(alloc: Global, count: usize) -> Result<Vec<Vec<Word>>, NoMemory> {
-    let mut words = Vec::new(alloc);
+/// So many nodes of which a row alone is known.
+pub fn facts_of(alloc: Global, count: usize, row: Row) -> Result<Vec<Facts>, NoMemory> {
+    let mut facts = Vec::new(alloc);
     for _ in 0..count {
-        words.push(Vec::new(alloc))?;
+        facts.push(Facts {
+            row: copy_of(&row),
+            names: [None; 32],
+            spans: unknown(),
+            words: Vec::new(alloc),
+            lines: Vec::new(alloc),
+        })?;
     }
-    Ok(words)
-}
-
-/// No sums, by node.
-pub fn no_lines(alloc: Global, count: usize) -> Result<Vec<Vec<Line>>, NoMemory> {
-    let mut lines = Vec::new(alloc);
-    for _ in 0..count {
-        lines.push(Vec::new(alloc))?;
-    }
-    Ok(lines)
+    Ok(facts)
 }
 
 /// The interval of a value by its name, where that is of a word or of what x2 had when the function began.
 pub fn name_arc(name: Option<Name>, words: &[Word], begins: &Option<Arc>) -> Option<Arc> {
     match name? {
-        Name::OfWord(k, more) => {
-            let arc = words.get(k as usize).copied().and_then(|known| known.arc);
-            raised(arc, more).or(word())
-        }
+        Name::OfWord(k, more) => { raised(word_at(words, k as usize).arc, more).or(word()) }
         Name::OfBegin(2, more) => raised(*begins, more),
         Name::OfBegin(_, _) => None,
     }
@@ -154,48 +152,5 @@ pub fn flowing_arc(name: Option<Name>, state: &State, begins: &Option<Arc>) -> O
         Name::OfWord(k, more) => raised(state.word(k as usize).arc, more).or(word()),
         Name::OfBegin(2, more) => raised(*begins, more),
         Name::OfBegin(_, _) => None,
-    }
-}
-
-impl States {
-    /// Nothing is anywhere.
-    pub fn new(alloc: Global, nodes: usize) -> Result<States, NoMemory> {
-        Ok(States {
-            rows: vec![in alloc; zeros(); nodes]?,
-            names: vec![in alloc; [None; 32]; nodes]?,
-            spans: vec![in alloc; unknown(); nodes]?,
-            words: no_words(alloc, nodes)?,
-            lines: no_lines(alloc, nodes)?,
-        })
-    }
-
-    /// What is known at a node.
-    pub fn seen(&self, k: usize) -> Option<Seen<'_>> {
-        Some(Seen {
-            row: self.rows.get(k)?,
-            names: self.names.get(k)?,
-            spans: self.spans.get(k)?,
-            words: self.words.get(k)?,
-            lines: self.lines.get(k)?,
-        })
-    }
-
-    /// Lets a node be one to which no state comes.
-    pub fn forget(&mut self, k: usize) {
-        if let Some(row) = self.rows.get_mut(k) {
-            *row = zeros();
-        }
-        if let Some(names) = self.names.get_mut(k) {
-            *names = [None; 32];
-        }
-        if let Some(spans) = self.spans.get_mut(k) {
-            *spans = unknown();
-        }
-        if let Some(words) = self.words.get_mut(k) {
-            words.clear();
-        }
-        if let Some(lines) = self.lines.get_mut(k) {
-            lines.clear();
-        }
     }
 }

@@ -1,6 +1,9 @@
 //! Tables of values and of stack words.
 
+use crate::states::Facts;
+use scale_base::NoMemory;
 use stack_tables::StackTable;
+use std::alloc::Global;
 use value_checks::ValueTable;
 use wrapped_intervals::Arc;
 
@@ -12,4 +15,58 @@ pub type Row = [Option<Arc>; 32];
 pub struct Tables {
     pub values: ValueTable,
     pub stack: StackTable,
+}
+
+impl Tables {
+    /// Tables of no node and of no function.
+    pub fn none(alloc: Global) -> Tables {
+        Tables {
+            values: ValueTable {
+                live: Vec::new(alloc),
+                rows: Vec::new(alloc),
+                exits: Vec::new(alloc),
+                forms: Vec::new(alloc),
+                lines: Vec::new(alloc),
+            },
+            stack: StackTable {
+                names: Vec::new(alloc),
+                spans: Vec::new(alloc),
+                words: Vec::new(alloc),
+                begins: Vec::new(alloc),
+                restored: Vec::new(alloc),
+                place: None,
+                spared: Vec::new(alloc),
+            },
+        }
+    }
+
+    /// Adds what is known at the next node.
+    pub fn add_node(&mut self, facts: Facts) -> Result<(), NoMemory> {
+        let Facts {
+            row,
+            names,
+            spans,
+            words,
+            lines,
+        } = facts;
+        self.values.rows.push(row)?;
+        self.values.lines.push(lines)?;
+        self.stack.names.push(names)?;
+        self.stack.spans.push(spans)?;
+        self.stack.words.push(words)?;
+        Ok(())
+    }
+
+    /// Adds what is known of the next function: at its returns, of x2 when it begins, and which registers it gives back.
+    pub fn add_function(
+        &mut self,
+        exit: Row,
+        begins: Option<Arc>,
+        restored: [bool; 32],
+    ) -> Result<(), NoMemory> {
+        self.values.exits.push(exit)?;
+        self.stack.begins.push(begins)?;
+        self.stack.restored.push(restored)?;
+        Ok(())
+    }
 }

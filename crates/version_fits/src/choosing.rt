@@ -1,4 +1,4 @@
-//! The version by which a program takes the least energy.
+//! The version by which a program takes less energy.
 
 ghost use Rattle.std.specs.Prelude.{◌≡◌, ◌<◌, ◌≤◌, length, map, true, IfOk, IfSome};
 ghost use Rattle.std.specs.List.{All};
@@ -8,7 +8,7 @@ ghost use Rattle.version_fits.specs.Chosen.{IsBest, IsChosenVersion, IsDraftedFi
 use crate::fits::{Fit, FitGoal, drafted_file, fit_file, fit_image};
 use pace_fit::Fitted;
 use run_progress::Progress;
-use scale_base::NoMemory;
+use scale_base::{FILE_LIMIT, IMAGE_LIMIT, NoMemory};
 use std::alloc::Global;
 use versioned_images::{Version, find_versions};
 
@@ -31,22 +31,24 @@ fn are_same(flags: &[bool], others: &[bool]) -> bool
     }
 }
 
-// Whether a fit takes less than another one, on the same inputs.
+// Whether a fit takes less than another one by more than a sixty-fourth, on the same inputs. Of versions whose copies run up to greater limits, which are
+// tried first, more new inputs profit: one with a lesser limit has to be worth it.
 fn takes_less(fit: &Fit, than: &Fit) -> bool
     ensures less { result ≡ true → fit.now.fitted.energy < than.now.fitted.energy }
     ensures same { result ≡ true → fit.now.flags.items ≡ than.now.flags.items }
 {
-    fit.fitted.energy < than.fitted.energy && are_same(&fit.flags, &than.flags)
+    fit.fitted.energy < than.fitted.energy - than.fitted.energy / 64
+        && are_same(&fit.flags, &than.flags)
 }
 
-// The least fit so far, and the version that it is of, if it isn't that of the program itself.
+// The fit that is chosen so far, and the version that it is of, if it isn't that of the program itself.
 #[derive(Drop)]
 struct Best {
     version: Option<Version>,
     fit: Fit,
 }
 
-// The least fit so far, or that of this version where it takes less.
+// The fit that is chosen so far, or that of this version where it takes less.
 fn try_version<P: Progress>(
     alloc: Global,
     goal: &FitGoal<'_>,
@@ -71,7 +73,7 @@ fn try_version<P: Progress>(
     Ok(best)
 }
 
-// The least fit of a program and its versions.
+// The fit that is chosen of a program and its versions.
 fn best_of<P: Progress>(
     alloc: Global,
     goal: &FitGoal<'_>,
@@ -129,8 +131,8 @@ fn choose_by<P: Progress>(
     loops: &[u8],
     progress: &mut P,
 ) -> Result<Option<ChosenVersion>, NoMemory>
-    requires plain { length plain.now ≤ 4194304 }
-    requires short { length loops.now ≤ 1048576 }
+    requires plain { length plain.now ≤ IMAGE_LIMIT }
+    requires short { length loops.now ≤ FILE_LIMIT }
     requires loops { IsDraftedFile plain.now loops.now }
     ensures { IfOk result (λ chosen. IfSome chosen (IsChosenVersion plain.now goal.now.machine.now
         (map (λ input. input.items) goal.now.inputs.now))) }
@@ -145,16 +147,17 @@ fn choose_by<P: Progress>(
     }
 }
 
-/// The version of a program that takes the least energy on the inputs that count, of several the first; none where no version takes less than the
-/// program itself, where a loop of it is open, or where something refuses it. Each is fitted with a draft of its loops as its loop file. A version is
-/// left out where a loop of it is open, or where other inputs count. Which versions are tried isn't promised: at most 8. How far the runs are is told.
+/// A version by which a program takes less energy on the inputs that count, by more than a sixty-fourth: of those that are tried the last one of which this
+/// is so against all before it. None where no version takes so much less than the program itself, where a loop of it is open, or where something refuses
+/// it. Each is fitted with a draft of its loops as its loop file. A version is left out where a loop of it is open, or where other inputs count. Which
+/// versions are tried isn't promised: at most 8. How far the runs are is told.
 pub fn choose_version<P: Progress>(
     alloc: Global,
     goal: &FitGoal<'_>,
     plain: &[u8],
     progress: &mut P,
 ) -> Result<Option<ChosenVersion>, NoMemory>
-    requires { length plain.now ≤ 4194304 }
+    requires { length plain.now ≤ IMAGE_LIMIT }
     ensures { IfOk result (λ chosen. IfSome chosen (IsChosenVersion plain.now goal.now.machine.now
         (map (λ input. input.items) goal.now.inputs.now))) }
 {

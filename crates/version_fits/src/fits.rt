@@ -2,6 +2,7 @@
 
 ghost use Rattle.std.specs.Prelude.{◌≡◌, ◌≤◌, length, map, string_bytes, IfOk, IfSome};
 ghost use Rattle.std.specs.List.{All};
+ghost use Rattle.scale_base.specs.declared.limits.TheConstants.{FILE_LIMIT};
 ghost use Rattle.pace_fit.specs.Finding.{IsPrepared};
 ghost use Rattle.version_fits.specs.Chosen.{IsDraftedFile, IsFitBy, IsFitOf};
 
@@ -10,20 +11,17 @@ use gain_tuner::GivenFiles;
 use loop_drafts::{draft_loops, printed_text};
 use pace_fit::{Fitted, Prepared, choose, prepare};
 use run_progress::Progress;
-use scale_base::{NoMemory, Stop};
+use scale_base::{FILE_LIMIT, IMAGE_LIMIT, NoMemory, Stop};
 use std::alloc::Global;
-
-/// So many bytes of an image are loaded.
-const IMAGE_LIMIT: usize = 4_194_304;
 
 /// What an image is fitted to: a machine and inputs.
 #[derive(Clone, Copy)]
 pub struct FitGoal<'a> {
     pub machine: &'a [u8],
     pub inputs: &'a [Vec<u8>],
-    ghost short: { length machine.now ≤ 1048576 },
+    ghost short: { length machine.now ≤ FILE_LIMIT },
     ghost few: { length inputs.now ≤ 64 },
-    ghost inputs_short: { All (λ input. length input.items ≤ 1048576) inputs.now },
+    ghost inputs_short: { All (λ input. length input.items ≤ FILE_LIMIT) inputs.now },
 }
 
 /// The numbers of a fitted image, and which inputs count.
@@ -41,7 +39,7 @@ pub fn drafted_file<P: Progress>(
     progress: &mut P,
 ) -> Result<Option<String>, NoMemory>
     ensures drafted { IfOk result (λ file. IfSome file (λ file. IsDraftedFile image.now (string_bytes file))) }
-    ensures short { IfOk result (λ file. IfSome file (λ file. length (string_bytes file) ≤ 1048576)) }
+    ensures short { IfOk result (λ file. IfSome file (λ file. length (string_bytes file) ≤ FILE_LIMIT)) }
 {
     match draft_loops(alloc, image, goal.inputs, progress) {
         Ok(draft) => {
@@ -62,11 +60,11 @@ fn fit_prepared<P: Progress>(
     prepared: Prepared,
     progress: &mut P,
 ) -> Result<Fit, NoMemory>
-    requires image { length given.now.image.now ≤ 4194304 }
-    requires machine { length given.now.machine.now ≤ 1048576 }
-    requires loops { length given.now.loops.now ≤ 1048576 }
+    requires image { length given.now.image.now ≤ IMAGE_LIMIT }
+    requires machine { length given.now.machine.now ≤ FILE_LIMIT }
+    requires loops { length given.now.loops.now ≤ FILE_LIMIT }
     requires few { length given.now.inputs.now ≤ 64 }
-    requires inputs { All (λ input. length input.items ≤ 1048576) given.now.inputs.now }
+    requires inputs { All (λ input. length input.items ≤ FILE_LIMIT) given.now.inputs.now }
     requires prepared { IsPrepared given.now.image.now given.now.machine.now given.now.loops.now
         (map (λ input. input.items) given.now.inputs.now) prepared }
     ensures { IfOk result (λ fit. IsFitBy given.now.image.now given.now.machine.now given.now.loops.now
@@ -88,8 +86,8 @@ pub fn fit_file<P: Progress>(
     loops: &[u8],
     progress: &mut P,
 ) -> Result<Option<Fit>, NoMemory>
-    requires image { length image.now ≤ 4194304 }
-    requires loops { length loops.now ≤ 1048576 }
+    requires image { length image.now ≤ IMAGE_LIMIT }
+    requires loops { length loops.now ≤ FILE_LIMIT }
     ensures { IfOk result (λ fit. IfSome fit (λ fit. IsFitBy image.now goal.now.machine.now loops.now
         (map (λ input. input.items) goal.now.inputs.now) fit.flags.items fit.fitted)) }
 {

@@ -6,7 +6,7 @@ use gain_tuner::GivenFiles;
 use pace_fit::{Ending, is_counted};
 use paced_images::Proposal;
 use run_progress::Progress;
-use scale_base::NoMemory;
+use scale_base::{FILE_LIMIT, IMAGE_LIMIT, NoMemory};
 use std::alloc::Global;
 use switch_search::{Files, propose};
 
@@ -38,9 +38,9 @@ pub fn proposals_of<P: Progress>(
     endings: &[Ending],
     progress: &mut P,
 ) -> Result<Vec<Proposal>, NoMemory>
-    requires image { length given.now.image.now ≤ 4194304 }
-    requires machine { length given.now.machine.now ≤ 1048576 }
-    requires loops { length given.now.loops.now ≤ 1048576 }
+    requires image { length given.now.image.now ≤ IMAGE_LIMIT }
+    requires machine { length given.now.machine.now ≤ FILE_LIMIT }
+    requires loops { length given.now.loops.now ≤ FILE_LIMIT }
     requires few { length given.now.inputs.now ≤ 64 }
     requires endings { length endings.now ≡ length given.now.inputs.now }
     ensures { IfOk result (λ proposals. length proposals.items ≤ 10) }

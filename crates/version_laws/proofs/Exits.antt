@@ -178,7 +178,7 @@ exits_of image versioned pieces sites base status raw own is follows =
     record { standing = so_far.0; output = so_far.1; classes = follows.classes }
 
 pub runs_exit : VersionedRunsExit
-runs_exit = λ image versioned pieces sites base levels input n status h small is.
+runs_exit = λ image versioned pieces sites base levels input n status h small back is.
     let outside = stay_outside image versioned pieces sites base levels input n status h is in
-    let follows = runs_follow image versioned pieces sites base levels input n h small outside in
+    let follows = runs_follow image versioned pieces sites base levels input n h small outside back in
     (follows.0, exits_of image versioned pieces sites base status (run_of image levels input n) (run_of versioned levels input follows.0) is follows.1)

@@ -1,9 +1,11 @@
 -- The versioned image follows the original: by the number of the original's steps.
-use Rattle.std.proofs.Common.{◌≡◌, ℕ, zero, suc, ◌+◌, ◌<◌, Bool, true, false, not, cond, List, [], ◌∷◌, ◌++◌, length, map, filter, replicate, refl, arith, sym, ◌∙◌, ap, subst, Some, ◌⊎◌, inl, inr, append_assoc, append-nil}
+use Rattle.std.proofs.Common.{◌≡◌, ℕ, zero, suc, ◌+◌, ◌<◌, Bool, true, false, not, cond, List, [], ◌∷◌, ◌++◌, length, map, filter, replicate, refl, arith, sym, ◌∙◌, ap, subst, Some, ◌⊎◌, inl, inr, append_assoc, append-nil, Option, None}
 use Rattle.std.specs.Prelude.{All, slice_set, ◌||◌}
 use Rattle.std.proofs.Math.Path.{fun_ext}
-use Rattle.std.proofs.lemmas.Bool.{cond-true, cond-false}
-use Rattle.std.proofs.lemmas.List.Elements.{All-pop, All-head, All-tail, All-replicate, All-set, filter-append}
+use Rattle.std.proofs.lemmas.Bool.{cond-true, cond-false, both_ways}
+use Rattle.std.specs.List.{list_any}
+use Rattle.std.proofs.lemmas.List.Sums.{fold-append}
+use Rattle.std.proofs.lemmas.List.Elements.{All-pop, All-head, All-tail, All-replicate, All-set, filter-append, All-append}
 use Rattle.scale_base.specs.declared.stepping.Class.{Class}
 use Rattle.scale_base.specs.declared.stepping.Stepped.{Stepped}
 use Rattle.scale_base.specs.declared.stepping.StepEnd.{StepEnd}
@@ -16,12 +18,15 @@ use Rattle.scale_base.specs.Run.{Run, Standing, GoesOn, HasExited, HasTrapped, S
 use Rattle.scale_base.specs.Run as runs
 use Rattle.scale_base.proofs.Laws.{run_step}
 use Rattle.graph_runs.proofs.Laws.{went_at}
+use Rattle.graph_runs.specs.ReturnAddresses.{returns_after}
+use Rattle.graph_runs.specs.RunTransitions.{returns_more, returns_so}
 use Rattle.stored_runs.specs.Meaning.{StepsLead}
 use Rattle.stored_runs.proofs.Laws.{leads_none, leads_first, leads_on, laid, byte_seen, hidden}
 use Rattle.loop_versions.specs.declared.pieces.Piece.{Piece}
 use Rattle.loop_versions.specs.declared.pieces.Site.{Site}
-use Rattle.loop_versions.specs.Fitting.{origin}
-use Rattle.loop_versions.specs.Follows.{in_block, StaysOutside, AreSameStates, IsSoFar, is_extra_step, FollowsVersioned}
+use Rattle.loop_versions.specs.Fitting.{origin, begins, calls_at, is_entered, is_returned}
+use Rattle.loop_versions.specs.Follows.{in_block, StaysOutside, AreSameStates, IsSoFar, is_extra_step, FollowsVersioned, GoesBack}
+use Rattle.loop_versions.proofs.Laws.{begins_on, off_calls}
 use Rattle.version_laws.proofs.Words.{IsWord, AreWords}
 use Rattle.version_laws.proofs.Frame.{IsFrame}
 use Rattle.version_laws.proofs.States as states
@@ -108,6 +113,17 @@ module _ (image versioned : Image) (pieces : List Piece) (sites : List Site) (ba
   abbrev AreOutside : List Stepped → Type 0
   AreOutside xs = All (λ x. in_code x.next ≡ false) xs
 
+  abbrev calls : ℕ → List ℕ
+  calls v = calls_at pieces base v
+
+  -- where calls are inlined, the returns have gone back to their calls
+  abbrev GoBack : List Stepped → Type 0
+  GoBack xs = list_any is_entered pieces ≡ true → (rs : List ℕ) × (returns_so xs ≡ Some rs)
+
+  -- and the inlined calls at an address are the first ones of those that are open
+  abbrev AreOpen : ℕ → List Stepped → Type 0
+  AreOpen v xs = list_any is_entered pieces ≡ true → (rs : List ℕ) × (returns_so xs ≡ Some rs) × (begins (calls v) rs ≡ true)
+
   abbrev Follows : Run → Run → Type 0
   Follows raw own = FollowsVersioned image versioned pieces sites base raw own
 
@@ -120,6 +136,7 @@ module _ (image versioned : Image) (pieces : List Piece) (sites : List Site) (ba
     leads : StepsLead other (start_of versioned levels) steps (up v r.state)
     raw : IsRaw r.state
     outside : in_code r.state.pc ≡ false
+    opened : AreOpen v r.steps
     classes : left_of is_extra steps ≡ classes_of r.steps
 
   -- and where that has ended
@@ -147,8 +164,8 @@ module _ (image versioned : Image) (pieces : List Piece) (sites : List Site) (ba
   entry_outside : in_code image.entry ≡ false
   entry_outside = f.off_text image.entry f.entry_in
 
-  begins : IsGoing (begin (start_of image levels))
-  begins = record {
+  starts : IsGoing (begin (start_of image levels))
+  starts = record {
     v = image.entry;
     stands = states.origin_none image versioned pieces sites base levels input f image.entry (f.no_piece image.entry entry_outside).0;
     steps = [];
@@ -163,38 +180,64 @@ module _ (image versioned : Image) (pieces : List Piece) (sites : List Site) (ba
       bytes = f.bytes;
     };
     outside = entry_outside;
+    opened = λ has. ([], refl, ap (λ (cs : List ℕ). begins cs []) (off_calls pieces base image.entry (f.no_piece image.entry entry_outside).0));
     classes = refl;
   }
 
   -- ---- one step more
 
-  went_on : (r : Run) (g : IsGoing r) (l : states.IsLed image versioned pieces sites base levels input f r.state g.v) (p : legs.IsPassed image versioned pieces sites base levels input f r.state l.to) → in_code p.x.next ≡ false → IsGoing (ended r.steps (step one r.state).end (step one r.state).state)
-  went_on r g l p outside =
+  -- the calls that are open at an address are open where a way leads from it
+  open_on : (xs : List Stepped) (v to : ℕ) → AreOpen v xs → begins (calls to) (calls v) ≡ true → AreOpen to xs
+  open_on xs v to opened more has = let o = opened has in (o.0, o.1, begins_on (calls to) (calls v) o.0 more o.2)
+
+  after_one : (xs : List Stepped) (x : Stepped) → returns_so (xs ++ x ∷ []) ≡ returns_more (returns_so xs) x
+  after_one xs x = fold-append returns_more (Some []) xs (x ∷ [])
+
+  kept : (xs : List Stepped) (x : Stepped) (to : ℕ) → AreOpen to xs → GoBack (xs ++ x ∷ []) → list_any is_entered pieces ≡ true →
+      (rs : List ℕ) × (after : List ℕ) × (begins (calls to) rs ≡ true) × (returns_after rs x ≡ Some after)
+  kept xs x to opened back has =
+      let o = opened has in
+      let b = back has in
+      (o.0, b.0, o.2, sym (ap (λ r. returns_more r x) o.1) ∙ (sym (after_one xs x) ∙ b.1))
+
+  before_last : (xs : List Stepped) (x : Stepped) → (rs : List ℕ) × (returns_so (xs ++ x ∷ []) ≡ Some rs) → (rs : List ℕ) × (returns_so xs ≡ Some rs)
+  before_last xs x h = by (returns_so xs) refl
+    where
+      by : (o : Option (List ℕ)) → returns_so xs ≡ o → (rs : List ℕ) × (returns_so xs ≡ Some rs)
+      by (Some rs) e = (rs, e)
+      by None e =
+          let none : None ≡ Some h.0 = sym (ap (λ r. returns_more r x) e) ∙ (sym (after_one xs x) ∙ h.1) in
+          let never : ⊥ = cc in absurd never
+
+  went_on : (r : Run) (g : IsGoing r) (l : states.IsLed image versioned pieces sites base levels input f r.state g.v) (p : legs.IsPassed image versioned pieces sites base levels input f r.state l.to) → in_code p.x.next ≡ false → GoBack (r.steps ++ p.x ∷ []) → IsGoing (ended r.steps (step one r.state).end (step one r.state).state)
+  unfolding kept
+  went_on r g l p outside back =
       let end_is : (step one r.state).end ≡ Went p.x = ap (λ (o : Outcome). o.end) p.step_is in
       let next : p.u.pc ≡ p.x.next = sym (ap (λ (o : Outcome). o.state.pc) p.step_is) ∙ (went_at one r.state p.x end_is).1 in
-      let on : StepsLead other (up l.to r.state) (p.y ∷ []) (up p.next p.u) = leads_first other (up l.to r.state) (up p.next p.u) (up p.next p.u) p.y [] p.step_too (leads_none other (up p.next p.u)) in
-      let there : StepsLead other (up g.v r.state) (l.steps ++ p.y ∷ []) (up p.next p.u) = leads_on other (up g.v r.state) (up l.to r.state) (up p.next p.u) l.steps (p.y ∷ []) l.leads on in
-      let real = legs.real_step image versioned pieces sites base levels input f r.state l.to p.y g.outside l.stands l.real p.here in
+      let on : StepsLead other p.t (p.y ∷ []) (up p.next p.u) = leads_first other p.t (up p.next p.u) (up p.next p.u) p.y [] p.step_too (leads_none other (up p.next p.u)) in
+      let before : StepsLead other (up g.v r.state) (l.steps ++ p.front) p.t = leads_on other (up g.v r.state) (up l.to r.state) p.t l.steps p.front l.leads p.leads in
+      let there : StepsLead other (up g.v r.state) ((l.steps ++ p.front) ++ p.y ∷ []) (up p.next p.u) = leads_on other (up g.v r.state) p.t (up p.next p.u) (l.steps ++ p.front) (p.y ∷ []) before on in
+      let after = kept r.steps p.x l.to (open_on r.steps g.v l.to g.opened l.open_to) back in
       let to : IsGoing (record { steps = r.steps ++ p.x ∷ []; state = p.u; standing = GoesOn }) = record {
         v = p.next;
-        stands = p.stands outside;
-        steps = g.steps ++ (l.steps ++ p.y ∷ []);
+        stands = p.stands outside after;
+        steps = g.steps ++ ((l.steps ++ p.front) ++ p.y ∷ []);
         goes_on = refl;
-        leads = leads_on other (start_of versioned levels) (up g.v r.state) (up p.next p.u) g.steps (l.steps ++ p.y ∷ []) g.leads there;
+        leads = leads_on other (start_of versioned levels) (up g.v r.state) (up p.next p.u) g.steps ((l.steps ++ p.front) ++ p.y ∷ []) g.leads there;
         raw = states.raw_next image versioned pieces sites base levels input f small r.state p.u p.x g.raw p.step_is p.fetched;
         outside = ap in_code next ∙ outside;
-        classes = left_more is_extra g.steps l.steps r.steps p.x p.y g.classes l.extra real p.class;
+        opened = λ has. let k = after has in (k.1, (back has).1, p.opens outside k.0 k.1 k.2 k.3);
+        classes = left_more is_extra g.steps (l.steps ++ p.front) r.steps p.x p.y g.classes (All-append (λ x. is_extra x ≡ true) l.steps p.front l.extra p.extra) p.real p.class;
       } in
       subst IsGoing (sym (ap (λ (o : Outcome). ended r.steps o.end o.state) p.step_is)) to
 
-  came_to_end : (r : Run) (g : IsGoing r) (l : states.IsLed image versioned pieces sites base levels input f r.state g.v) (e : StepEnd) (u : State) (h : StepEnd) (t : State) → step other (up l.to r.state) ≡ record { end = h; state = t } → t.output ≡ u.output → EndsAlike l.to e h → IsOver (ended r.steps e u)
-  came_to_end r g l (Exited x status) u (Exited y other_status) t is_too output alike =
-      let xs : List Stepped = g.steps ++ l.steps in
+  came_to_end : (r : Run) (g : IsGoing r) (l : states.IsLed image versioned pieces sites base levels input f r.state g.v) (e : StepEnd) (u : State) (h : StepEnd) (t : State) → step other (up l.to r.state) ≡ record { end = h; state = t } → t.output ≡ u.output → EndsAlike l.to e h → ((y : Stepped) → y.pc ≡ l.to → is_extra y ≡ false) → IsOver (ended r.steps e u)
+  came_to_end r g l (Exited x status) u (Exited y other_status) t is_too output alike real_at =
       let led : StepsLead other (start_of versioned levels) (g.steps ++ l.steps) (up l.to r.state) = leads_on other (start_of versioned levels) (up g.v r.state) (up l.to r.state) g.steps l.steps g.leads l.leads in
       let ran : run other (start_of versioned levels) (length (g.steps ++ l.steps) + 1) ≡ record { steps = (g.steps ++ l.steps) ++ y ∷ []; state = t; standing = HasExited other_status } =
       run_step other (start_of versioned levels) (up l.to r.state) (length (g.steps ++ l.steps)) (g.steps ++ l.steps) led ∙ ap (λ (o : Outcome). ended (g.steps ++ l.steps) o.end o.state) is_too in
       let raw : Run = record { steps = r.steps ++ x ∷ []; state = u; standing = HasExited status } in
-      let real = legs.real_step image versioned pieces sites base levels input f r.state l.to y g.outside l.stands l.real alike.2 in
+      let real = real_at y alike.2 in
       record {
         stays = refl;
         after = length (g.steps ++ l.steps) + 1;
@@ -203,7 +246,7 @@ module _ (image versioned : Image) (pieces : List Piece) (sites : List Site) (ba
           classes = ap (λ (zs : List Stepped). left_of is_extra zs) (append_assoc g.steps l.steps (y ∷ [])) ∙ left_more is_extra g.steps l.steps r.steps x y g.classes l.extra real alike.1;
         });
       }
-  came_to_end r g l (Trapped trap) u (Trapped other_trap) t is_too output alike =
+  came_to_end r g l (Trapped trap) u (Trapped other_trap) t is_too output alike real_at =
       let led : StepsLead other (start_of versioned levels) (g.steps ++ l.steps) (up l.to r.state) = leads_on other (start_of versioned levels) (up g.v r.state) (up l.to r.state) g.steps l.steps g.leads l.leads in
       let ran : run other (start_of versioned levels) (length (g.steps ++ l.steps) + 1) ≡ record { steps = g.steps ++ l.steps; state = t; standing = HasTrapped other_trap } =
       run_step other (start_of versioned levels) (up l.to r.state) (length (g.steps ++ l.steps)) (g.steps ++ l.steps) led ∙ ap (λ (o : Outcome). ended (g.steps ++ l.steps) o.end o.state) is_too in
@@ -212,24 +255,41 @@ module _ (image versioned : Image) (pieces : List Piece) (sites : List Site) (ba
         stays = refl;
         after = length (g.steps ++ l.steps) + 1;
         followed = subst (Follows raw) (sym ran) (record {
-          standing = (alike, output);
+          standing = λ off. (alike, output);
           classes = left_extra is_extra g.steps l.steps r.steps g.classes l.extra;
         });
       }
-  came_to_end r g l e u h t is_too output alike = absurd alike
+  came_to_end r g l e u h t is_too output alike real_at = absurd alike
 
   ended_now : (r : Run) (g : IsGoing r) (l : states.IsLed image versioned pieces sites base levels input f r.state g.v) → legs.IsEnded image versioned pieces sites base levels input f r.state l.to → IsOver (ended r.steps (step one r.state).end (step one r.state).state)
-  ended_now r g l e = subst IsOver (sym (ap (λ (o : Outcome). ended r.steps o.end o.state) e.ends)) (came_to_end r g l e.end e.u e.end_too e.u_too e.ends_too e.output e.alike)
+  ended_now r g l e = subst IsOver (sym (ap (λ (o : Outcome). ended r.steps o.end o.state) e.ends)) (came_to_end r g l e.end e.u e.end_too e.u_too e.ends_too e.output e.alike e.real)
 
-  more : (r : Run) (g : IsGoing r) → AreOutside (one_more one r).steps → IsGoing (one_more one r) ⊎ IsOver (one_more one r)
-  more r g outside =
+  lost_now : (r : Run) (g : IsGoing r) → legs.IsLost image versioned pieces sites base levels input f r.state → IsOver (ended r.steps (step one r.state).end (step one r.state).state)
+  lost_now r g e =
+      let raw : Run = record { steps = r.steps; state = r.state; standing = HasTrapped e.trap } in
+      let over : IsOver raw = record {
+        stays = refl;
+        after = length g.steps;
+        followed = subst (Follows raw) (sym g.leads) (record {
+          standing = λ off. absurd (both_ways (list_any (is_returned r.state.pc) pieces) off e.at_return);
+          classes = g.classes;
+        });
+      } in
+      subst IsOver (sym (ap (λ (o : Outcome). ended r.steps o.end o.state) e.ends)) over
+
+  more : (r : Run) (g : IsGoing r) → AreOutside (one_more one r).steps → GoBack (one_more one r).steps → IsGoing (one_more one r) ⊎ IsOver (one_more one r)
+  more r g outside back =
       let next : one_more one r ≡ ended r.steps (step one r.state).end (step one r.state).state = ap (one_more_by one r) g.goes_on in
       let l = states.leads_there image versioned pieces sites base levels input f r.state g.v g.raw g.stands in
       elim (legs.passes image versioned pieces sites base levels input f r.state l.to g.raw g.outside l.stands l.real) [
         | inl p ↦
             let all : AreOutside (r.steps ++ p.x ∷ []) = subst (λ (q : Run). AreOutside q.steps) (next ∙ ap (λ (o : Outcome). ended r.steps o.end o.state) p.step_is) outside in
-            inl (subst IsGoing (sym next) (went_on r g l p (last (λ x. in_code x.next ≡ false) r.steps p.x all)))
-        | inr e ↦ inr (subst IsOver (sym next) (ended_now r g l e))
+            let goes : GoBack (r.steps ++ p.x ∷ []) = subst (λ (q : Run). GoBack q.steps) (next ∙ ap (λ (o : Outcome). ended r.steps o.end o.state) p.step_is) back in
+            inl (subst IsGoing (sym next) (went_on r g l p (last (λ x. in_code x.next ≡ false) r.steps p.x all) goes))
+        | inr stopped ↦ elim stopped [
+          | inl e ↦ inr (subst IsOver (sym next) (ended_now r g l e))
+          | inr e ↦ inr (subst IsOver (sym next) (lost_now r g e))
+        ]
       ]
 
   -- ---- by the number of steps
@@ -238,11 +298,25 @@ module _ (image versioned : Image) (pieces : List Piece) (sites : List Site) (ba
   unfolding run_of run
   less n h = let r = run one (start_of image levels) n in front (λ x. in_code x.next ≡ false) one r r.standing h
 
-  follows : (n : ℕ) → StaysOutside image versioned pieces sites base levels input n → IsGoing (run_of image levels input n) ⊎ IsOver (run_of image levels input n)
+  back_of : (xs : List Stepped) (e : StepEnd) (u : State) → GoBack (ended xs e u).steps → GoBack xs
+  back_of xs (Went x) u h has = before_last xs x (h has)
+  back_of xs (Exited x status) u h has = before_last xs x (h has)
+  back_of xs (Trapped trap) u h has = h has
+
+  back_front : (r : Run) (standing : Standing) → GoBack (one_more_by one r standing).steps → GoBack r.steps
+  back_front r GoesOn h = back_of r.steps (step one r.state).end (step one r.state).state h
+  back_front r (HasExited status) h = h
+  back_front r (HasTrapped trap) h = h
+
+  less_back : (n : ℕ) → GoesBack image versioned pieces sites base levels input (suc n) → GoesBack image versioned pieces sites base levels input n
   unfolding run_of run
-  follows zero keeps = inl begins
-  follows (suc n) keeps = elim (follows n (less n keeps)) [
-    | inl g ↦ more (run one (start_of image levels) n) g keeps
+  less_back n h = let r = run one (start_of image levels) n in back_front r r.standing h
+
+  follows : (n : ℕ) → StaysOutside image versioned pieces sites base levels input n → GoesBack image versioned pieces sites base levels input n → IsGoing (run_of image levels input n) ⊎ IsOver (run_of image levels input n)
+  unfolding run_of run
+  follows zero keeps back = inl starts
+  follows (suc n) keeps back = elim (follows n (less n keeps) (less_back n back)) [
+    | inl g ↦ more (run one (start_of image levels) n) g keeps back
     | inr over ↦ inr (subst IsOver (sym over.stays) over)
   ]
 
@@ -269,9 +343,9 @@ module _ (image versioned : Image) (pieces : List Piece) (sites : List Site) (ba
       })
 
   -- the run of each image with such a frame is followed
-  pub frame_follows : (n : ℕ) → StaysOutside image versioned pieces sites base levels input n → (m : ℕ) × FollowsVersioned image versioned pieces sites base (run_of image levels input n) (run_of versioned levels input m)
+  pub frame_follows : (n : ℕ) → StaysOutside image versioned pieces sites base levels input n → GoesBack image versioned pieces sites base levels input n → (m : ℕ) × FollowsVersioned image versioned pieces sites base (run_of image levels input n) (run_of versioned levels input m)
   unfolding run_of
-  frame_follows n keeps = elim (follows n keeps) [
+  frame_follows n keeps back = elim (follows n keeps back) [
     | inl g ↦ (length g.steps, going_is_followed (run_of image levels input n) g)
     | inr over ↦ (over.after, over.followed)
   ]

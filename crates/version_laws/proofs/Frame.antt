@@ -1,5 +1,6 @@
 -- What of an image and its versioned image the law of runs needs: layouts, bytes, pieces and sites.
 use Rattle.std.proofs.Common.{◌≡◌, ℕ, ◌+◌, ◌*◌, ◌%◌, ◌^◌, ◌<◌, ◌≤◌, true, false, List, Some, None}
+use Rattle.std.specs.Prelude.{nat_lt}
 use Rattle.std.specs.List.{list_any}
 use Rattle.scale_base.specs.Image.{Image, loaded_byte, is_word_address, is_in}
 use Rattle.scale_base.specs.Layout.{layout_of, in_text, is_keyed, can_fetch}
@@ -13,8 +14,8 @@ use Rattle.image_lower.specs.TreeRuns.{InstrStands, CodeStands}
 use Rattle.bound_laws.specs.Values.{AreBytes}
 use Rattle.loop_versions.specs.declared.pieces.Piece.{Piece}
 use Rattle.loop_versions.specs.declared.pieces.Site.{Site}
-use Rattle.loop_versions.specs.Pieces.{origin_of, piece_len, behind, piece_at, site_at, piece_code, is_extra, in_extra, is_site}
-use Rattle.loop_versions.specs.Fitting.{origin, is_right, is_free, ways}
+use Rattle.loop_versions.specs.Pieces.{origin_of, piece_len, behind, piece_at, site_at, piece_code, extra_len, in_extra, is_site}
+use Rattle.loop_versions.specs.Fitting.{origin, begins, calls_at, is_right, is_free, ways}
 use Rattle.loop_versions.specs.Follows.{in_block}
 
 -- a piece that begins at an address
@@ -22,7 +23,7 @@ pub record IsPieceAt (image versioned : Image) (pieces : List Piece) (sites : Li
   pub word : is_word_address image (origin_of p) ≡ true
   pub right : is_right image pieces base v p ≡ true
   pub free : is_free (ways pieces sites base) 8 v ≡ true
-  pub extra : (a : ℕ) → v ≤ a → a < behind v p → in_extra base pieces a ≡ is_extra p
+  pub extra : (a : ℕ) → v ≤ a → a < behind v p → in_extra base pieces a ≡ nat_lt a (v + 4 * extra_len p)
   pub no_site : (a : ℕ) → v ≤ a → a < behind v p → is_site sites a ≡ false
   pub text : (a : ℕ) → v ≤ a → a < behind v p → (in_text (layout_of versioned) a ≡ true) × (in_text (layout_of image) a ≡ false)
   pub code : CodeStands (setting_of versioned levels input) (loaded_byte versioned) v (piece_code image v p)
@@ -33,6 +34,7 @@ pub record IsPieceAt (image versioned : Image) (pieces : List Piece) (sites : Li
 pub record IsSiteAt (image versioned : Image) (pieces : List Piece) (sites : List Site) (base levels : ℕ) (input : List ℕ) (pc : ℕ) (s : Site) : Type 0 where
   pub word : is_word_address image pc ≡ true
   pub there : origin pieces base s.to ≡ pc
+  pub calls : begins (calls_at pieces base s.to) (calls_at pieces base pc) ≡ true
   pub free : is_free (ways pieces sites base) 8 pc ≡ true
   pub listed : is_site sites pc ≡ true
   pub jumps : InstrStands (setting_of versioned levels input) (loaded_byte versioned) pc (jump pc s.to)

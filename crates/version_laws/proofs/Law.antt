@@ -39,7 +39,7 @@ use Rattle.image_lower.proofs.Laws.{IsMade, IsMadeFile, made_added}
 use Rattle.loop_versions.specs.declared.pieces.Piece.{Piece}
 use Rattle.loop_versions.specs.declared.pieces.Site.{Site}
 use Rattle.loop_versions.specs.Pieces.{behind, piece_at, site_at, read, piece_code, pieces_code, in_extra, is_site}
-use Rattle.loop_versions.specs.Fitting.{origin, stands_for, is_right, are_right, are_free, are_there, is_site_right, are_fit, ways}
+use Rattle.loop_versions.specs.Fitting.{origin, stands_for, is_right, are_right, are_free, are_there, is_site_right, are_fit, ways, begins, calls_at}
 use Rattle.loop_versions.specs.Fitting as fitting
 use Rattle.loop_versions.specs.Made.{site_patches, pieces_bytes, IsVersioned}
 use Rattle.loop_versions.specs.Follows.{in_block, VersionedRunsFollow}
@@ -359,6 +359,7 @@ module _ (file made : List ℕ) (pieces : List Piece) (sites : List Site) (base 
       record {
         word = word;
         there = r.there ∙ here;
+        calls = subst (λ a. begins (calls_at pieces base s.to) (calls_at pieces base a) ≡ true) here r.calls;
         free = subst (λ a. fitting.is_free (ways pieces sites base) 8 a ≡ true) here (site_passes (λ (s : Site). fitting.is_free (ways pieces sites base) 8 s.at ≡ true) sites pc s fit.sites_free e);
         listed = is.listed;
         jumps = record {
@@ -409,5 +410,5 @@ frame_of image versioned pieces sites base levels input h =
     (subst Q (contents-are versioned.file versioned h.read_too) (λ g. frame image.file versioned.file pieces sites base g levels input)) h
 
 pub runs_follow : VersionedRunsFollow
-runs_follow = λ image versioned pieces sites base levels input n h small keeps.
-    frame_follows image versioned pieces sites base levels input (frame_of image versioned pieces sites base levels input h) small n keeps
+runs_follow = λ image versioned pieces sites base levels input n h small keeps back.
+    frame_follows image versioned pieces sites base levels input (frame_of image versioned pieces sites base levels input h) small n keeps back

@@ -1,8 +1,8 @@
 -- What is known of a state of the original run, and the ways through sites, bridges and guards to what stands for its instruction.
-use Rattle.std.proofs.Common.{cond, ◌≡◌, ℕ, zero, suc, ◌+◌, ◌%◌, ◌^◌, ◌<◌, ◌≤◌, Bool, true, false, List, [], ◌∷◌, ◌++◌, length, replicate, refl, arith, sym, ◌∙◌, ap, subst, Option, Some, None, ◌⊎◌, inl, inr}
+use Rattle.std.proofs.Common.{cond, ◌≡◌, ℕ, zero, suc, ◌+◌, ◌%◌, ◌^◌, ◌<◌, ◌≤◌, Bool, true, false, List, [], ◌∷◌, ◌++◌, length, replicate, refl, arith, sym, ◌∙◌, ap, subst, Option, Some, None, ◌⊎◌, inl, inr, ◌*◌}
 use Rattle.std.specs.Prelude.{All, slice_set, ◌==◌}
 use Rattle.std.specs.List.{list_any, list_all}
-use Rattle.std.proofs.lemmas.Bool.{and_parts, or_left, or_right, eqb-true}
+use Rattle.std.proofs.lemmas.Bool.{and_parts, or_left, or_right, eqb-true, lt-ltb, le-ltb, or_from}
 use Rattle.std.proofs.lemmas.List.Elements.{All-nil, All-cons, All-append, All-weaker}
 use Rattle.scale_base.specs.declared.stepping.Stepped.{Stepped}
 use Rattle.scale_base.specs.Image.{Image, loaded_byte, is_word_address, is_in}
@@ -22,19 +22,29 @@ use Rattle.scale_base.specs.declared.instruction.Instr.{Instr}
 use Rattle.bound_laws.specs.Values.{AreBytes}
 use Rattle.bound_laws.proofs.Laws.{step_bytes}
 use Rattle.loop_versions.specs.declared.pieces.Piece.{Piece}
-use Rattle.loop_versions.specs.declared.pieces.Piece.TheVariants.{Copied, Branched, Jumped, Bridge, Guard}
+use Rattle.loop_versions.specs.declared.pieces.Piece.TheVariants.{Copied, Branched, Jumped, Bridge, Guard, Entered, Returned}
 use Rattle.loop_versions.specs.declared.pieces.Site.{Site}
-use Rattle.loop_versions.specs.Pieces.{origin_of, behind, piece_at, site_at, is_extra, in_extra, is_site, guard_code}
-use Rattle.loop_versions.specs.Fitting.{origin_by, origin, ways_of, ways_of_site, ways_by, ways, is_free}
+use Rattle.loop_versions.specs.Pieces.{origin_of, behind, piece_at, site_at, in_extra, is_site, guard_code, extra_len}
+use Rattle.loop_versions.specs.Fitting.{origin_by, origin, ways_of, ways_of_site, ways_by, ways, is_free, begins, calls_at}
 use Rattle.loop_versions.specs.Follows.{is_extra_step}
 use Rattle.loop_versions.specs.GuardRuns.{IsAtGuard, found_by, is_small}
 use Rattle.version_laws.proofs.Words.{AreWords, word_in_reg, step_words}
-use Rattle.loop_versions.proofs.Laws.{bridge_of, guard_of, guards_lead_on, jump_step}
+use Rattle.loop_versions.proofs.Laws.{bridge_of, guard_of, guards_lead_on, jump_step, begins_on, begins_same, extra_few}
 use Rattle.version_laws.proofs.Frame.{IsPieceAt, IsFrame}
 
 -- nothing is hidden
 abbrev none : ℕ → Bool
 none a = false
+
+-- no instruction of a bridge or a guard stands for one of the text
+abbrev pub is_extra : Piece → Bool
+is_extra (Copied at) = false
+is_extra (Branched at to) = false
+is_extra (Jumped at to) = false
+is_extra (Bridge at to) = true
+is_extra (Guard at larger smaller limit to) = true
+is_extra (Entered at to end) = false
+is_extra (Returned at to) = false
 
 module _ (image versioned : Image) (pieces : List Piece) (sites : List Site) (base levels : ℕ) (input : List ℕ) (f : IsFrame image versioned pieces sites base levels input) where
   abbrev pub one : Setting
@@ -155,8 +165,23 @@ module _ (image versioned : Image) (pieces : List Piece) (sites : List Site) (ba
   code_stays bytes at [] h = tt
   code_stays bytes at (i ∷ is) h = (one_stays bytes at i h.0, code_stays bytes (at + 4) is h.1)
 
-  extra_inside : (v : ℕ) (p : Piece) (x : Stepped) → IsPieceAt image versioned pieces sites base levels input v p → is_extra p ≡ true → v ≤ x.pc → x.pc < behind v p → IsExtra x
-  extra_inside v p x is extra low high = or_right (is_site sites x.pc) (in_extra base pieces x.pc) (is.extra x.pc low high ∙ extra)
+  -- the first instructions of a piece stand for no step, and the others for one
+  pub extra_inside : (v : ℕ) (p : Piece) (x : Stepped) → IsPieceAt image versioned pieces sites base levels input v p → v ≤ x.pc → x.pc < v + 4 * extra_len p → IsExtra x
+  extra_inside v p x is low high =
+      let few = extra_few p in
+      or_right (is_site sites x.pc) (in_extra base pieces x.pc) (is.extra x.pc low (omega (arith, high, few)) ∙ lt-ltb x.pc (v + 4 * extra_len p) high)
+
+  pub real_inside : (v : ℕ) (p : Piece) (x : Stepped) → IsPieceAt image versioned pieces sites base levels input v p → v + 4 * extra_len p ≤ x.pc → x.pc < behind v p → is_extra_step image versioned pieces sites base x ≡ false
+  real_inside v p x is low high =
+      or_from (is_site sites x.pc) (in_extra base pieces x.pc) (is.no_site x.pc (omega (arith, low)) high)
+      (is.extra x.pc (omega (arith, low)) high ∙ le-ltb x.pc (v + 4 * extra_len p) low)
+
+  -- the inlined calls that are open at an address
+  abbrev pub calls : ℕ → List ℕ
+  calls v = calls_at pieces base v
+
+  abbrev pub AreOpen : ℕ → List ℕ → Type 0
+  AreOpen v rs = begins (calls v) rs ≡ true
 
   -- ---- ways on
 
@@ -165,28 +190,30 @@ module _ (image versioned : Image) (pieces : List Piece) (sites : List Site) (ba
     pub to : ℕ
     pub stands : origin pieces base to ≡ s.pc
     pub real : IsReal to
+    pub open_to : AreOpen to (calls v)
     pub steps : List Stepped
     pub leads : StepsLead other (up v s) steps (up to s)
     pub extra : All IsExtra steps
 
   led_here : (s : State) (v : ℕ) → StandsFor v s.pc → IsReal v → IsLed s v
-  led_here s v stands real = record { to = v; stands = stands; real = real; steps = []; leads = leads_none other (up v s); extra = All-nil IsExtra }
+  led_here s v stands real = record { to = v; stands = stands; real = real; open_to = begins_same (calls v); steps = []; leads = leads_none other (up v s); extra = All-nil IsExtra }
 
-  led_on : (s : State) (v to : ℕ) (steps : List Stepped) → StepsLead other (up v s) steps (up to s) → All IsExtra steps → IsLed s to → IsLed s v
-  led_on s v to steps leads extra l = record {
+  led_on : (s : State) (v to : ℕ) (steps : List Stepped) → StepsLead other (up v s) steps (up to s) → All IsExtra steps → AreOpen to (calls v) → IsLed s to → IsLed s v
+  led_on s v to steps leads extra opened l = record {
     to = l.to;
     stands = l.stands;
     real = l.real;
+    open_to = begins_on (calls l.to) (calls to) (calls v) l.open_to opened;
     steps = steps ++ l.steps;
     leads = leads_on other (up v s) (up to s) (up l.to s) steps l.steps leads l.leads;
     extra = All-append IsExtra steps l.steps extra l.extra;
   }
 
-  led_jump : (s : State) (v to : ℕ) → InstrStands other (loaded_byte versioned) v (jump v to) → (to < 2 ^ 32) × (to % 4 ≡ 0) → ((x : Stepped) → x.pc ≡ v → IsExtra x) → IsLed s to → IsLed s v
-  led_jump s v to stands good extra l =
+  led_jump : (s : State) (v to : ℕ) → InstrStands other (loaded_byte versioned) v (jump v to) → (to < 2 ^ 32) × (to % 4 ≡ 0) → ((x : Stepped) → x.pc ≡ v → IsExtra x) → AreOpen to (calls v) → IsLed s to → IsLed s v
+  led_jump s v to stands good extra opened l =
       let x = stepped other (up v s) (jump v to) false None to in
       let is = jump_step other (up v s) v to refl (one_stays s.bytes v (jump v to) stands) good.0 good.1 in
-      led_on s v to (x ∷ []) (leads_first other (up v s) (up to s) (up to s) x [] is (leads_none other (up to s))) (All-cons IsExtra x [] (extra x refl) (All-nil IsExtra)) l
+      led_on s v to (x ∷ []) (leads_first other (up v s) (up to s) (up to s) x [] is (leads_none other (up to s))) (All-cons IsExtra x [] (extra x refl) (All-nil IsExtra)) opened l
 
   abbrev w : ℕ → List ℕ
   w = ways pieces sites base
@@ -212,7 +239,7 @@ module _ (image versioned : Image) (pieces : List Piece) (sites : List Site) (ba
       let same : v ≡ s.pc = sym (origin_none v e) ∙ stands in
       led_jump s v site.to is.jumps (good_way site.to v is.there is.word)
       (λ x here. or_left (is_site sites x.pc) (in_extra base pieces x.pc) (ap (is_site sites) here ∙ is.listed))
-      (further site.to (is.there ∙ same) (one_free n v site.to (ways_none v (Some site) e g) free))
+      is.calls (further site.to (is.there ∙ same) (one_free n v site.to (ways_none v (Some site) e g) free))
 
   led_bridge : (n : ℕ) (s : State) (v at to : ℕ) → StandsFor v s.pc → is_free w (suc n) v ≡ true → piece_at base pieces v ≡ Some (Bridge at to) → LeadsFurther n s → IsLed s v
   led_bridge n s v at to stands free e further =
@@ -220,12 +247,12 @@ module _ (image versioned : Image) (pieces : List Piece) (sites : List Site) (ba
       let b = bridge_of image pieces base v at to is.right in
       let same : at ≡ s.pc = sym (origin_piece v (Bridge at to) e) ∙ stands in
       led_jump s v to is.code.0 (good_way to at b.there is.word)
-      (λ x here. extra_inside v (Bridge at to) x is refl (omega (arith, here)) (omega (arith, here)))
-      (further to (b.there ∙ same) (one_free n v to (ways_piece v (Bridge at to) e) free))
+      (λ x here. extra_inside v (Bridge at to) x is (omega (arith, here)) (omega (arith, here)))
+      b.calls (further to (b.there ∙ same) (one_free n v to (ways_piece v (Bridge at to) e) free))
 
-  led_found : (s : State) (v to : ℕ) (steps : List Stepped) (small : Bool) → StepsLead other (up v s) steps (up (cond small (v + 36) to) s) → All IsExtra steps → IsLed s (v + 36) → IsLed s to → IsLed s v
-  led_found s v to steps true leads extra next there = led_on s v (v + 36) steps leads extra next
-  led_found s v to steps false leads extra next there = led_on s v to steps leads extra there
+  led_found : (s : State) (v to : ℕ) (steps : List Stepped) (small : Bool) → StepsLead other (up v s) steps (up (cond small (v + 36) to) s) → All IsExtra steps → AreOpen (v + 36) (calls v) → AreOpen to (calls v) → IsLed s (v + 36) → IsLed s to → IsLed s v
+  led_found s v to steps true leads extra a b next there = led_on s v (v + 36) steps leads extra a next
+  led_found s v to steps false leads extra a b next there = led_on s v to steps leads extra b there
 
   led_guard : (n : ℕ) (s : State) (v at larger smaller limit to : ℕ) → IsRaw s → StandsFor v s.pc → is_free w (suc n) v ≡ true → piece_at base pieces v ≡ Some (Guard at larger smaller limit to) → LeadsFurther n s → IsLed s v
   led_guard n s v at larger smaller limit to raw stands free e further =
@@ -254,8 +281,8 @@ module _ (image versioned : Image) (pieces : List Piece) (sites : List Site) (ba
       let both = two_free n v (v + 36) to (ways_piece v p e) free in
       let o = found_by (up v s) larger smaller limit in
       let l = guards_lead_on other (up v s) larger smaller limit to here in
-      let inside = All-weaker (λ x. (v ≤ x.pc) × (x.pc < v + 36)) IsExtra (λ x h. extra_inside v p x is refl h.0 h.1) l.steps l.inside in
-      led_found s v to l.steps (is_small o) l.leads inside (further (v + 36) (g.next ∙ same) both.0) (further to (g.there ∙ same) both.1)
+      let inside = All-weaker (λ x. (v ≤ x.pc) × (x.pc < v + 36)) IsExtra (λ x h. extra_inside v p x is h.0 h.1) l.steps l.inside in
+      led_found s v to l.steps (is_small o) l.leads inside g.calls_next g.calls (further (v + 36) (g.next ∙ same) both.0) (further to (g.there ∙ same) both.1)
 
   led_by : (n : ℕ) (s : State) (v : ℕ) → IsRaw s → StandsFor v s.pc → is_free w (suc n) v ≡ true → LeadsFurther n s → IsLed s v
   led_by n s v raw stands free further = by_piece (piece_at base pieces v) refl
@@ -270,6 +297,8 @@ module _ (image versioned : Image) (pieces : List Piece) (sites : List Site) (ba
       by_piece (Some (Jumped at to)) e = led_here s v stands (inl (Jumped at to, e, refl))
       by_piece (Some (Bridge at to)) e = led_bridge n s v at to stands free e further
       by_piece (Some (Guard at larger smaller limit to)) e = led_guard n s v at larger smaller limit to raw stands free e further
+      by_piece (Some (Entered at to end)) e = led_here s v stands (inl (Entered at to end, e, refl))
+      by_piece (Some (Returned at to)) e = led_here s v stands (inl (Returned at to, e, refl))
       by_piece None e = by_site e (site_at sites v) refl
 
   led : (n : ℕ) (s : State) (v : ℕ) → IsRaw s → StandsFor v s.pc → is_free w n v ≡ true → IsLed s v

@@ -3,19 +3,30 @@
 ghost use Rattle.std.specs.Prelude.{◌≡◌, Ok};
 
 use crate::code::Code;
+use crate::copies::{Copies, Copy, needs_bridge};
 use crate::counting::Range;
 use crate::entering::{Entry, Way};
-use crate::places::{Places, needs_bridge};
 use code_text::moved;
 use loop_versions::{Piece, Site, piece_len};
 use scale_base::{Instr, NoMemory};
 use std::alloc::Global;
 
-/// A loop, from where it is entered, and when the copy is to run.
+/// Words of the text that are copied, of which that at this address runs first; from where they are entered, and how great the difference that a guard
+/// asks may be, in steps. A loop's has its number.
+#[derive(Drop)]
+pub struct Region<'a> {
+    pub number: Option<usize>,
+    pub at: u32,
+    pub nodes: &'a [usize],
+    pub entries: &'a [Entry],
+    pub bound: u32,
+}
+
+/// A region, the number of its candidate, and when the copy is to run.
 #[derive(Drop)]
 pub struct Plan<'a> {
     pub number: usize,
-    pub entries: &'a [Entry],
+    pub region: &'a Region<'a>,
     pub range: Range,
     pub limit: u16,
 }
@@ -28,10 +39,10 @@ pub struct Version {
     place: u32,
 }
 
-/// Whether the header is the first word of a loop: then the last guard stands right in front of the copy.
-fn begins_at_header(code: &Code<'_>, l: usize) -> bool {
-    match code.body(l) {
-        [first, ..] => code.address(*first) == code.header_at(l),
+// Whether the copy is entered at its first word: then the last guard stands right in front of it.
+fn begins_at_entry(code: &Code<'_>, plan: &Plan<'_>) -> bool {
+    match plan.region.nodes {
+        [first, ..] => code.address(*first) == plan.region.at,
         [] => false,
     }
 }
@@ -39,44 +50,67 @@ fn begins_at_header(code: &Code<'_>, l: usize) -> bool {
 // How far in front of the copy the first piece stands: the words of entries, each with a guard and a jump, the last jump maybe left out.
 fn front_len(code: &Code<'_>, plan: &Plan<'_>) -> u32 {
     let mut len = 0u32;
-    for entry in plan.entries {
+    for entry in plan.region.entries {
         len = len
             .wrapping_add(40)
             .wrapping_add(entry.len().wrapping_mul(4));
     }
-    if begins_at_header(code, plan.number) {
+    if begins_at_entry(code, plan) {
         len = len.wrapping_sub(4);
     }
     len
 }
 
-// The places of a version's copy, with those of the branches at its entries.
-fn places_of(
-    alloc: Global,
-    code: &Code<'_>,
-    plan: &Plan<'_>,
-    base: u32,
-) -> Result<Places, NoMemory> {
-    let from = base.wrapping_add(front_len(code, plan));
-    let mut places = Places::of(alloc, code, plan.number, from)?;
-    for entry in plan.entries {
+// The addresses to which branches at the entries lead, other than to where the guard stands.
+fn ways_of(alloc: Global, plan: &Plan<'_>) -> Result<Vec<u32>, NoMemory> {
+    let mut ways = Vec::new(alloc);
+    for entry in plan.region.entries {
         if let Way::Untaken(to) = entry.way {
-            places.add_pad(to)?;
+            ways.push(to)?;
         }
     }
-    Ok(places)
+    Ok(ways)
+}
+
+// Where what stands behind the call is whose copy a return is in.
+fn behind_call(copies: &[Copy<'_>], copy: &Copy<'_>) -> u32 {
+    let Some(call) = copy.call else {
+        return 0;
+    };
+    let back = call.at.wrapping_add(4);
+    match copies.get(call.copy) {
+        Some(caller) => caller.jump(back),
+        None => back,
+    }
+}
+
+// The call at an address, with the copy of what is called.
+fn entered(copies: &[Copy<'_>], copy: &Copy<'_>, at: u32) -> Piece {
+    match copy.callee(at).and_then(|number| copies.get(number)) {
+        Some(callee) => Piece::Entered {
+            at,
+            to: callee.from,
+            end: callee.end,
+        },
+        None => Piece::Copied { at },
+    }
 }
 
 // The copy of a word.
-fn copied(places: &Places, at: u32, instr: Instr) -> Piece {
+fn copied(copies: &[Copy<'_>], copy: &Copy<'_>, at: u32, instr: Instr) -> Piece {
     match instr {
         Instr::Branch { offset, .. } => Piece::Branched {
             at,
-            to: places.branch(moved(at, offset)),
+            to: copy.branch(moved(at, offset)),
         },
-        Instr::Jal { offset, .. } => Piece::Jumped {
+        Instr::Jal { rd: 0, offset } => Piece::Jumped {
             at,
-            to: places.jump(moved(at, offset)),
+            to: copy.jump(moved(at, offset)),
+        },
+        Instr::Jal { .. } => entered(copies, copy, at),
+        Instr::Jalr { .. } => Piece::Returned {
+            at,
+            to: behind_call(copies, copy),
         },
         _ => Piece::Copied { at },
     }
@@ -89,84 +123,147 @@ impl Version {
         Ok(())
     }
 
-    // The word that leads to the header, with the way to the guard behind it.
-    fn push_front(&mut self, places: &Places, entry: &Entry) -> Result<(), NoMemory> {
+    // The word that leads to where the guard stands, with the way there.
+    fn push_front(&mut self, copy: &Copy<'_>, entry: &Entry) -> Result<(), NoMemory> {
         let at = entry.at;
         let guard = self.place.wrapping_add(entry.len().wrapping_mul(4));
-        self.sites.push(Site { at, to: self.place })?;
         match entry.way {
             Way::Next => self.push(Piece::Copied { at }),
             Way::Jump => self.push(Piece::Jumped { at, to: guard }),
             Way::Untaken(to) => {
-                let to = places.branch(to);
+                let to = copy.branch(to);
                 self.push(Piece::Branched { at, to })
             }
             Way::Taken => {
-                let next = at.wrapping_add(4);
                 self.push(Piece::Branched { at, to: guard })?;
-                self.push(Piece::Bridge { at: next, to: next })
+                self.push_back(at.wrapping_add(4))
+            }
+            Way::Here(None) => {
+                self.push(Piece::Copied { at })?;
+                self.push_back(at.wrapping_add(4))
+            }
+            Way::Here(Some(to)) => {
+                let taken = self.place.wrapping_add(8);
+                self.push(Piece::Branched { at, to: taken })?;
+                self.push_back(at.wrapping_add(4))?;
+                self.push_back(to)
             }
         }
     }
 
-    // The guard, and the way to the copy of the header where that isn't behind it.
-    fn push_guard(&mut self, plan: &Plan<'_>, header: u32, copy: u32) -> Result<(), NoMemory> {
+    // A jump into the text.
+    fn push_back(&mut self, at: u32) -> Result<(), NoMemory> {
+        self.push(Piece::Bridge { at, to: at })
+    }
+
+    // The guard, and the way to the first word of the copy where that isn't behind it.
+    fn push_guard(&mut self, plan: &Plan<'_>, other: u32, copy: u32) -> Result<(), NoMemory> {
         self.push(Piece::Guard {
-            at: header,
+            at: plan.region.at,
             larger: plan.range.larger,
             smaller: plan.range.smaller,
             limit: plan.limit,
-            to: header,
+            to: other,
         })?;
         if self.place == copy {
             return Ok(());
         }
         self.push(Piece::Bridge {
-            at: header,
+            at: plan.region.at,
             to: copy,
         })
     }
 
-    fn push_copy(&mut self, code: &Code<'_>, places: &Places, l: usize) -> Result<(), NoMemory> {
-        let body = code.body(l);
-        for i in 0..body.len() {
-            let at = code.address(body[i]);
-            self.push(copied(places, at, code.instr(body[i])))?;
-            if needs_bridge(code, body, i) {
-                let next = at.wrapping_add(4);
-                self.push(Piece::Bridge {
-                    at: next,
-                    to: places.jump(next),
-                })?;
-            }
+    // What stands in front of a copy for one of its entries.
+    fn push_entry(
+        &mut self,
+        plan: &Plan<'_>,
+        copy: &Copy<'_>,
+        entry: &Entry,
+    ) -> Result<(), NoMemory> {
+        let front = self.place;
+        self.push_front(copy, entry)?;
+        let (to, other) = match entry.way {
+            Way::Here(_) => (self.place, front),
+            _ => (front, plan.region.at),
+        };
+        self.sites.push(Site { at: entry.at, to })?;
+        self.push_guard(plan, other, copy.jump(plan.region.at))
+    }
+
+    // The word with a number of a copy, and the way on where the next one isn't behind it.
+    fn push_word(
+        &mut self,
+        code: &Code<'_>,
+        copies: &[Copy<'_>],
+        copy: &Copy<'_>,
+        i: usize,
+    ) -> Result<(), NoMemory> {
+        let Some(k) = copy.nodes.get(i) else {
+            return Ok(());
+        };
+        let at = code.address(*k);
+        self.push(copied(copies, copy, at, code.instr(*k)))?;
+        if needs_bridge(code, copy.nodes, i) {
+            let next = at.wrapping_add(4);
+            self.push(Piece::Bridge {
+                at: next,
+                to: copy.jump(next),
+            })?;
+        }
+        Ok(())
+    }
+
+    fn push_copy(
+        &mut self,
+        alloc: Global,
+        code: &Code<'_>,
+        copies: &[Copy<'_>],
+        copy: &Copy<'_>,
+    ) -> Result<(), NoMemory> {
+        if let Some(entry) = copy.front(code) {
+            self.push(Piece::Bridge {
+                at: entry,
+                to: copy.jump(entry),
+            })?;
+        }
+        for i in 0..copy.nodes.len() {
+            self.push_word(code, copies, copy, i)?;
+        }
+        for to in &copy.outside(alloc)? {
+            self.push_back(*to)?;
         }
         Ok(())
     }
 }
 
-/// The version of a plan, with its pieces from a base on.
+/// The version of a plan, with its pieces from a base on; none where too many calls are inlined.
 pub fn build(
     alloc: Global,
     code: &Code<'_>,
     plan: &Plan<'_>,
     base: u32,
-) -> Result<Version, NoMemory> {
-    let places = places_of(alloc, code, plan, base)?;
-    let header = code.header_at(plan.number);
+) -> Result<Option<Version>, NoMemory> {
+    let ways = ways_of(alloc, plan)?;
+    let from = base.wrapping_add(front_len(code, plan));
+    let Some(copies) = Copies::of(alloc, code, plan.region.nodes, &ways, from)? else {
+        return Ok(None);
+    };
+    let Some(first) = copies.all.first() else {
+        return Ok(None);
+    };
     let mut version = Version {
         pieces: Vec::new(alloc),
         sites: Vec::new(alloc),
         place: base,
     };
-    for entry in plan.entries {
-        version.push_front(&places, entry)?;
-        version.push_guard(plan, header, places.jump(header))?;
+    for entry in plan.region.entries {
+        version.push_entry(plan, first, entry)?;
     }
-    version.push_copy(code, &places, plan.number)?;
-    for to in &places.outside(alloc)? {
-        version.push(Piece::Bridge { at: *to, to: *to })?;
+    for copy in &copies.all {
+        version.push_copy(alloc, code, &copies.all, copy)?;
     }
-    Ok(version)
+    Ok(Some(version))
 }
 
 impl Version {

@@ -2,8 +2,8 @@
 
 use loop_versions::{Piece, Site};
 
-/// A version of a loop, by the loop's number in its tree. The copy runs where `larger` less `smaller` is from 0 on and below the limit at the
-/// loop's entry. The pieces begin at the base, where a segment of their bytes has room.
+/// A version: of a loop, by its number in the tree, or of what runs behind a read, with a number of its own behind those of the loops. The copy runs where
+/// `larger` less `smaller` is from 0 on and below the limit where the guard stands. The pieces begin at the base, where a segment of their bytes has room.
 #[derive(Drop)]
 pub struct Candidate {
     pub number: usize,

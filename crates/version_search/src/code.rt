@@ -10,7 +10,8 @@ use loop_forest::LoopTree;
 use scale_base::{Edge, Instr, NoMemory};
 use std::alloc::Global;
 
-/// An image, its graph and its loops; and by node, how many loops are round it, and how many edges lead to it.
+/// An image, its graph and its loops; by node, how many loops are round it, how many edges lead to it, and the innermost loop round it; by
+/// function, its nodes; and the nodes that end the program.
 #[derive(Drop)]
 pub struct Code<'a> {
     pub view: &'a ImageView<'a>,
@@ -18,6 +19,9 @@ pub struct Code<'a> {
     tree: &'a LoopTree,
     depths: Vec<u32>,
     arrivals: Vec<u32>,
+    innermost: Vec<Option<usize>>,
+    functions: Vec<Vec<usize>>,
+    exits: Vec<usize>,
 }
 
 // The instruction at an address. Where there is none, nothing goes on.
@@ -55,6 +59,48 @@ fn add_arrival(arrivals: &mut [u32], k: usize) {
     }
 }
 
+// By node, the innermost loop round it: that with the fewest nodes.
+fn innermost_of(
+    alloc: Global,
+    graph: &CodeGraph,
+    tree: &LoopTree,
+) -> Result<Vec<Option<usize>>, NoMemory> {
+    let mut lens = vec![in alloc; usize::MAX; graph.node_count()]?;
+    let mut innermost = vec![in alloc; None; graph.node_count()]?;
+    for l in 0..tree.loop_count() {
+        for k in tree.body(l) {
+            note_loop(&mut innermost, &mut lens, *k, l, tree.body(l).len());
+        }
+    }
+    Ok(innermost)
+}
+
+fn note_loop(innermost: &mut [Option<usize>], lens: &mut [usize], k: usize, l: usize, len: usize) {
+    if k < innermost.len() && k < lens.len() && len < lens[k] {
+        lens[k] = len;
+        innermost[k] = Some(l);
+    }
+}
+
+// By function, its nodes, ascending.
+fn nodes_of(alloc: Global, graph: &CodeGraph) -> Result<Vec<Vec<usize>>, NoMemory> {
+    let mut functions = Vec::new(alloc);
+    for _ in 0..graph.function_count() {
+        functions.push(Vec::new(alloc))?;
+    }
+    for k in 0..graph.node_count() {
+        add_node(&mut functions, graph.owner(k), k)?;
+    }
+    Ok(functions)
+}
+
+fn add_node(functions: &mut [Vec<usize>], f: usize, k: usize) -> Result<(), NoMemory> {
+    if f < functions.len() {
+        functions[f].push(k)?;
+    }
+    Ok(())
+}
+
 fn add_body(depths: &mut [u32], body: &[usize]) {
     for k in body {
         if *k < depths.len() {
@@ -72,17 +118,104 @@ impl<'a> Code<'a> {
     ) -> Result<Code<'a>, NoMemory> {
         let depths = depths_of(alloc, graph, tree)?;
         let arrivals = arrivals_of(alloc, graph)?;
-        Ok(Code {
+        let innermost = innermost_of(alloc, graph, tree)?;
+        let functions = nodes_of(alloc, graph)?;
+        let mut code = Code {
             view,
             graph,
             tree,
             depths,
             arrivals,
-        })
+            innermost,
+            functions,
+            exits: Vec::new(alloc),
+        };
+        code.find_exits()?;
+        Ok(code)
+    }
+
+    fn find_exits(&mut self) -> Result<(), NoMemory> {
+        for k in 0..self.node_count() {
+            if self.is_exit(k) {
+                self.exits.push(k)?;
+            }
+        }
+        Ok(())
+    }
+
+    /// The nodes that end the program.
+    pub fn exits(&self) -> &[usize] {
+        &self.exits
     }
 
     pub fn loop_count(&self) -> usize {
         self.tree.loop_count()
+    }
+
+    pub fn function_count(&self) -> usize {
+        self.functions.len()
+    }
+
+    pub fn node_count(&self) -> usize {
+        self.graph.node_count()
+    }
+
+    /// The functions, each behind those that it calls.
+    pub fn call_order(&self) -> &'a [usize] {
+        let graph = self.graph;
+        graph.call_order()
+    }
+
+    /// The nodes of a function, ascending.
+    pub fn function_nodes(&self, f: usize) -> &[usize] {
+        match self.functions.get(f) {
+            Some(nodes) => nodes,
+            None => &[],
+        }
+    }
+
+    /// The function that a node calls.
+    pub fn callee(&self, k: usize) -> Option<usize> {
+        if k >= self.graph.node_count() {
+            return None;
+        }
+        let (first, _) = self.graph.edges_of(k);
+        self.graph.callee(first)
+    }
+
+    /// The nodes that may run behind a node, of its own function.
+    pub fn next_nodes(&self, k: usize) -> [Option<usize>; 2] {
+        if k >= self.graph.node_count() {
+            return [None, None];
+        }
+        let (first, end) = self.graph.edges_of(k);
+        let second = first.saturating_add(1);
+        let other = if second < end {
+            self.target(second)
+        } else {
+            None
+        };
+        [self.target(first), other]
+    }
+
+    // Whether a node ends the program.
+    fn is_exit(&self, k: usize) -> bool {
+        matches!(self.instr(k), Instr::Ecall) && matches!(self.next_nodes(k), [None, None])
+    }
+
+    /// Whether an address is that of a word of the text.
+    pub fn is_text(&self, at: u32) -> bool {
+        self.view.is_text_word(at)
+    }
+
+    /// Whether one edge alone leads to a node.
+    pub fn is_alone(&self, k: usize) -> bool {
+        self.arrivals.get(k) == Some(&1)
+    }
+
+    /// The innermost loop round a node.
+    pub fn innermost(&self, k: usize) -> Option<usize> {
+        self.innermost.get(k).copied().flatten()
     }
 
     /// The nodes of a loop, ascending.
@@ -118,7 +251,7 @@ impl<'a> Code<'a> {
     }
 
     /// The node of a loop's header.
-    fn header(&self, l: usize) -> usize {
+    pub fn header(&self, l: usize) -> usize {
         if l < self.tree.loop_count() {
             self.tree.header(l)
         } else {
@@ -155,7 +288,7 @@ impl<'a> Code<'a> {
         let before = k.checked_sub(1)?;
         let follows = self.address(before).wrapping_add(4) == self.address(k);
         let leads = !matches!(self.instr(before), Instr::Jal { .. } | Instr::Jalr { .. });
-        if follows && leads && self.arrivals.get(k) == Some(&1) {
+        if follows && leads && self.is_alone(k) {
             Some(before)
         } else {
             None

@@ -3,6 +3,7 @@
 ghost use Rattle.std.specs.Prelude.{◌<◌};
 
 use crate::code::Code;
+use crate::functions::Functions;
 use scale_base::{ImmOp, Instr, NoMemory};
 use std::alloc::Global;
 
@@ -77,6 +78,16 @@ impl Registers {
         self.steps[r] = before.saturating_add(more);
     }
 
+    // Notes the registers that a call may change.
+    fn note_call(&mut self, changed: u32) {
+        for r in 1..32u8 {
+            if changed.wrapping_shr(u32::from(r)) & 1 == 1 {
+                self.written[usize::from(r)] = true;
+                self.lost[usize::from(r)] = true;
+            }
+        }
+    }
+
     // What a turn adds to a register in which the loop counts.
     fn step(&self, r: u8) -> Option<i32> {
         let r = usize::from(r);
@@ -115,10 +126,14 @@ impl Registers {
 }
 
 // What the instructions of a loop do to registers.
-fn registers_of(code: &Code<'_>, l: usize) -> Registers {
+fn registers_of(code: &Code<'_>, functions: &Functions, l: usize) -> Registers {
     let mut registers = Registers::new();
     for k in code.body(l) {
-        registers.note(code.instr(*k), code.is_outermost(l, *k));
+        if code.callee(*k).is_some() {
+            registers.note_call(functions.written_at(code, *k));
+        } else {
+            registers.note(code.instr(*k), code.is_outermost(l, *k));
+        }
     }
     registers
 }
@@ -142,8 +157,13 @@ fn is_among(ranges: &[Range], range: Range) -> bool {
 }
 
 /// The ranges that a loop's tests compare.
-pub fn ranges_of(alloc: Global, code: &Code<'_>, l: usize) -> Result<Vec<Range>, NoMemory> {
-    let registers = registers_of(code, l);
+pub fn ranges_of(
+    alloc: Global,
+    code: &Code<'_>,
+    functions: &Functions,
+    l: usize,
+) -> Result<Vec<Range>, NoMemory> {
+    let registers = registers_of(code, functions, l);
     let mut ranges = Vec::new(alloc);
     for k in code.body(l) {
         if let Some(range) = tested(code, l, &registers, *k) {

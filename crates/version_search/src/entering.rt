@@ -1,4 +1,4 @@
-//! The words of the text from which a loop is entered, and which can be moved in front of a guard.
+//! The words of the text from which copied code is entered, and which can be moved in front of a guard.
 
 use crate::code::Code;
 use code_text::moved;
@@ -16,9 +16,11 @@ pub enum Way {
     Taken,
     /// By a branch that isn't taken; else it leads to this address.
     Untaken(u32),
+    /// It is the first word that is copied itself; where it is a branch, that leads to this address.
+    Here(Option<u32>),
 }
 
-/// A word that leads to a header.
+/// A word that leads to where a guard is to stand.
 #[derive(Clone, Copy)]
 pub struct Entry {
     pub at: u32,
@@ -73,7 +75,8 @@ impl Entry {
     /// How many words stand from here to the guard.
     pub fn len(&self) -> u32 {
         match self.way {
-            Way::Taken => 2,
+            Way::Taken | Way::Here(None) => 2,
+            Way::Here(Some(_)) => 3,
             _ => 1,
         }
     }

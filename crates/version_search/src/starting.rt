@@ -8,12 +8,17 @@ use scale_base::{ImmOp, Instr, RegOp};
 /// As many words in front of a header are looked at.
 const MOST_WORDS: usize = 32;
 
+/// The number of the service that reads, and the register of a service's number.
+const READ: u32 = 63;
+
+const SERVICE: u8 = 17;
+
 /// Stands for no register.
 const UNKNOWN: u8 = 255;
 
 /// By register, what it holds: a number more than what a register held at first.
 #[derive(Drop)]
-struct Values {
+pub struct Values {
     bases: [u8; 32],
     more: [u32; 32],
 }
@@ -69,10 +74,40 @@ impl Values {
         }
     }
 
+    /// The number that a register holds, where that is known.
+    pub fn constant(&self, r: u8) -> Option<u32> {
+        if self.base(r) == 0 {
+            Some(self.more(r))
+        } else {
+            None
+        }
+    }
+
     fn has_constant(&self, range: Range) -> bool {
         let base = self.base(range.larger);
         base != UNKNOWN && base == self.base(range.smaller)
     }
+}
+
+/// What registers hold before a word, by the words in front of it.
+pub fn values_before(code: &Code<'_>, k: usize) -> Values {
+    let mut first = k;
+    for _ in 0..MOST_WORDS {
+        match code.before(first) {
+            Some(before) => first = before,
+            None => break,
+        }
+    }
+    let mut values = Values::new();
+    for j in first..k {
+        values.run(code.instr(j));
+    }
+    values
+}
+
+/// Whether a node asks the service that reads.
+pub fn is_read(code: &Code<'_>, k: usize) -> bool {
+    matches!(code.instr(k), Instr::Ecall) && values_before(code, k).constant(SERVICE) == Some(READ)
 }
 
 // Whether the words in front of a header say how far the counter is from its end.
@@ -80,17 +115,7 @@ fn is_constant(code: &Code<'_>, entry: &Entry, range: Range) -> bool {
     let Some(last) = code.find(entry.at) else {
         return false;
     };
-    let mut first = last;
-    for _ in 0..MOST_WORDS {
-        match code.before(first) {
-            Some(k) => first = k,
-            None => break,
-        }
-    }
-    let mut values = Values::new();
-    for k in first..last {
-        values.run(code.instr(k));
-    }
+    let mut values = values_before(code, last);
     values.run(code.instr(last));
     values.has_constant(range)
 }

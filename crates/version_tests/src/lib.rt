@@ -2,6 +2,10 @@
 #![tactic(auto)]
 
 #[cfg(test)]
+mod calling;
+#[cfg(test)]
+mod calls;
+#[cfg(test)]
 mod programs;
 #[cfg(test)]
 mod proposals;

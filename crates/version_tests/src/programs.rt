@@ -15,7 +15,7 @@ use version_search::{Candidate, find_candidates};
 /// The address of the first word.
 pub const START: u32 = 0x10000;
 
-fn addi(rd: u8, rs1: u8, imm: i32) -> Line {
+pub fn addi(rd: u8, rs1: u8, imm: i32) -> Line {
     Line::Op(Instr::Imm {
         op: ImmOp::Addi,
         rd,
@@ -24,7 +24,7 @@ fn addi(rd: u8, rs1: u8, imm: i32) -> Line {
     })
 }
 
-fn add(rd: u8, rs1: u8, rs2: u8) -> Line {
+pub fn add(rd: u8, rs1: u8, rs2: u8) -> Line {
     Line::Op(Instr::Reg {
         op: RegOp::Add,
         rd,
@@ -33,7 +33,7 @@ fn add(rd: u8, rs1: u8, rs2: u8) -> Line {
     })
 }
 
-fn branch(op: BranchOp, rs1: u8, rs2: u8, label: u32) -> Line {
+pub fn branch(op: BranchOp, rs1: u8, rs2: u8, label: u32) -> Line {
     Line::BranchTo {
         op,
         rs1,
@@ -47,7 +47,7 @@ fn jump(label: u32) -> Line {
 }
 
 // They read a byte into x5.
-fn first_lines() -> [Line; 6] {
+pub fn first_lines() -> [Line; 6] {
     [
         addi(17, 0, 63),
         addi(11, 2, 0),
@@ -64,15 +64,17 @@ fn first_lines() -> [Line; 6] {
 }
 
 // They end with what x6 holds.
-fn last_lines() -> [Line; 3] {
+pub fn last_lines() -> [Line; 3] {
     [addi(10, 6, 0), addi(17, 0, 93), Line::Op(Instr::Ecall)]
 }
 
-/// A program: its lines between the first and the last ones; the numbers among its words of the header, the first word of the range and the
-/// one behind it; by how much the byte is multiplied, and what is taken off that, to have the difference that its loop begins with.
+/// A program: its lines between the first and the last ones, and those of functions behind them; the numbers among its words of the header,
+/// the first word of the range and the one behind it; by how much the byte is multiplied, and what is taken off that, to have the
+/// difference that its loop begins with.
 #[derive(Drop)]
 pub struct Looping {
     pub lines: Vec<Line>,
+    pub functions: Vec<Line>,
     pub header: u32,
     pub from: u32,
     pub to: u32,
@@ -91,6 +93,7 @@ pub fn down(alloc: Global) -> Result<Looping, Fail> {
     ];
     Ok(Looping {
         lines: Vec::from_slice(alloc, &lines)?,
+        functions: Vec::new(alloc),
         header: 7,
         from: 7,
         to: 10,
@@ -114,6 +117,7 @@ pub fn up(alloc: Global, first: i32) -> Result<Looping, Fail> {
     ];
     Ok(Looping {
         lines: Vec::from_slice(alloc, &lines)?,
+        functions: Vec::new(alloc),
         header: 12,
         from: 10,
         to: 13,
@@ -136,6 +140,7 @@ pub fn past(alloc: Global) -> Result<Looping, Fail> {
     ];
     Ok(Looping {
         lines: Vec::from_slice(alloc, &lines)?,
+        functions: Vec::new(alloc),
         header: 8,
         from: 8,
         to: 12,
@@ -166,6 +171,7 @@ pub fn taken(alloc: Global) -> Result<Looping, Fail> {
     ];
     Ok(Looping {
         lines: Vec::from_slice(alloc, &lines)?,
+        functions: Vec::new(alloc),
         header: 12,
         from: 12,
         to: 18,
@@ -186,8 +192,45 @@ pub fn constant(alloc: Global) -> Result<Looping, Fail> {
     ];
     Ok(Looping {
         lines: Vec::from_slice(alloc, &lines)?,
+        functions: Vec::new(alloc),
         header: 8,
         from: 8,
+        to: 11,
+        times: 1,
+        less: 0,
+    })
+}
+
+/// Counts down to 0; the header calls a function that calls another one, and so does the word behind it.
+pub fn calling(alloc: Global) -> Result<Looping, Fail> {
+    let lines = [
+        addi(6, 0, 0),
+        Line::Label(1),
+        Line::JalTo { rd: 1, label: 2 },
+        Line::JalTo { rd: 1, label: 3 },
+        addi(5, 5, -1),
+        branch(BranchOp::Bne, 5, 0, 1),
+    ];
+    let back = Line::Op(Instr::Jalr {
+        rd: 0,
+        rs1: 1,
+        offset: 0,
+    });
+    let functions = [
+        Line::Label(2),
+        addi(7, 1, 0),
+        Line::JalTo { rd: 1, label: 3 },
+        addi(1, 7, 0),
+        back,
+        Line::Label(3),
+        add(6, 6, 5),
+        back,
+    ];
+    Ok(Looping {
+        lines: Vec::from_slice(alloc, &lines)?,
+        functions: Vec::from_slice(alloc, &functions)?,
+        header: 7,
+        from: 7,
         to: 11,
         times: 1,
         less: 0,
@@ -198,19 +241,25 @@ fn lines_of(alloc: Global, program: &Looping) -> Result<Vec<Line>, Fail> {
     let mut lines = Vec::from_slice(alloc, &first_lines())?;
     lines.extend_from_slice(&program.lines)?;
     lines.extend_from_slice(&last_lines())?;
+    lines.extend_from_slice(&program.functions)?;
     Ok(lines)
+}
+
+/// The image of lines.
+pub fn assembled(alloc: Global, lines: &[Line]) -> Result<Vec<u8>, Fail> {
+    if lines.len() > 131_072 {
+        return Err("there are fewer lines".into());
+    }
+    match assemble(alloc, lines) {
+        Ok(words) if words.len() <= 131_072 => Ok(plain_image(alloc, &words)?),
+        _ => Err("the lines have words".into()),
+    }
 }
 
 /// The image of a program.
 pub fn image_of(alloc: Global, program: &Looping) -> Result<Vec<u8>, Fail> {
     let lines = lines_of(alloc, program)?;
-    if lines.len() > 131_072 {
-        return Err("there are fewer lines".into());
-    }
-    match assemble(alloc, &lines) {
-        Ok(words) if words.len() <= 131_072 => Ok(plain_image(alloc, &words)?),
-        _ => Err("the lines have words".into()),
-    }
+    assembled(alloc, &lines)
 }
 
 /// The view of an image.

@@ -1,7 +1,7 @@
 //! Runs of images with versions: they end as those of the originals, and take the copy where the counter is below the limit.
 
 use crate::programs::{
-    Looping, address_of, candidates_of, down, graph_of, image_of, past, taken, up, view_of,
+    Looping, address_of, calling, candidates_of, down, graph_of, image_of, past, taken, up, view_of,
 };
 use elf_image::ImageView;
 use flat_memory::{ListMemory, load_list};
@@ -20,7 +20,8 @@ struct Ended {
     met: bool,
 }
 
-fn started(alloc: Global, view: &ImageView<'_>, byte: u8) -> Result<Machine<ListMemory>, Fail> {
+/// A machine with the image, and a byte to read.
+pub fn started(alloc: Global, view: &ImageView<'_>, byte: u8) -> Result<Machine<ListMemory>, Fail> {
     let memory = load_list(alloc, view)?;
     let input = Vec::from_slice(alloc, &[byte])?;
     Ok(Machine::start(alloc, memory, view.entry(), 3, 2, input)?)
@@ -59,7 +60,10 @@ fn copy_of(candidate: &Candidate, wanted: u32) -> u32 {
     let mut place = candidate.base;
     for piece in &candidate.pieces {
         match *piece {
-            Piece::Copied { at } | Piece::Branched { at, .. } | Piece::Jumped { at, .. } => {
+            Piece::Copied { at }
+            | Piece::Branched { at, .. }
+            | Piece::Jumped { at, .. }
+            | Piece::Entered { at, .. } => {
                 if at == wanted {
                     return place;
                 }
@@ -93,7 +97,9 @@ fn greatest(program: &Looping, limit: u16) -> u8 {
 fn compare(rt: &impl Abort, alloc: Global, program: &Looping) -> Result<(), Fail> {
     let file = image_of(alloc, program)?;
     let view = view_of(alloc, &file)?;
-    for candidate in &candidates_of(alloc, program, &view)? {
+    let candidates = candidates_of(alloc, program, &view)?;
+    assert!(rt; !candidates.is_empty());
+    for candidate in &candidates {
         let made = made_of(alloc, &view, candidate)?;
         let other = view_of(alloc, &made)?;
         graph_of(alloc, &other)?;
@@ -118,5 +124,6 @@ fn versions_end_as_their_originals(rt: HostRuntime) -> Result<(), Fail> {
     compare(&rt, alloc, &up(alloc, 0)?)?;
     compare(&rt, alloc, &up(alloc, 8)?)?;
     compare(&rt, alloc, &past(alloc)?)?;
-    compare(&rt, alloc, &taken(alloc)?)
+    compare(&rt, alloc, &taken(alloc)?)?;
+    compare(&rt, alloc, &calling(alloc)?)
 }

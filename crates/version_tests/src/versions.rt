@@ -54,15 +54,9 @@ fn told(alloc: Global, program: &Looping) -> Result<String, Fail> {
 fn versions_tell_their_guards(rt: HostRuntime) -> Result<(), Fail> {
     let alloc = rt.alloc();
     let down = told(alloc, &down(alloc)?)?;
-    assert_eq!(rt;
-        down.as_str(),
-        "65564 x5-x0<16 14 65564 x5-x0<26 14 65564 x5-x0<31 14 "
-    );
+    assert_eq!(rt; down.as_str(), "65564 x5-x0<23 14 65564 x5-x0<13 14 ");
     let up = told(alloc, &up(alloc, 0)?)?;
-    assert_eq!(rt;
-        up.as_str(),
-        "65584 x5-x7<31 15 65584 x5-x7<51 15 65584 x5-x7<61 15 "
-    );
+    assert_eq!(rt; up.as_str(), "65584 x5-x7<45 15 65584 x5-x7<25 15 ");
     let none = told(alloc, &constant(alloc)?)?;
     assert_eq!(rt; none.as_str(), "");
     Ok(())

@@ -1,5 +1,6 @@
 -- Scaffold: which files are versioned images of others.
 use Rattle.std.specs.Prelude.{◌≡◌, ℕ, ◌+◌, ◌*◌, ◌≤◌, false, List, [], ◌∷◌, length, None, Ok}
+use Rattle.scale_base.specs.declared.limits.TheConstants.{IMAGE_LIMIT}
 use Rattle.scale_base.specs.Image.{Image, image_of}
 use Rattle.image_lower.specs.Lowered.{is_full}
 use Rattle.loop_versions.specs.declared.pieces.Piece.{Piece}
@@ -14,7 +15,7 @@ pieces_len (p ∷ ps) = 4 * piece_len p + pieces_len ps
 
 -- an image that isn't too long, with room for a section more, and without a block
 abbrev pub IsOpen : Image → Type 0
-IsOpen image = (length image.file ≤ 4194304) × (is_full image.file ≡ false) × (image.keyed_segment ≡ None)
+IsOpen image = (length image.file ≤ IMAGE_LIMIT) × (is_full image.file ≡ false) × (image.keyed_segment ≡ None)
 
 -- the file of a versioned image of an image, with these pieces and sites, which have so many instructions
 pub record IsVersionedBy (image : Image) (pieces : List Piece) (sites : List Site) (made : List ℕ) (words : ℕ) : Type 0 where

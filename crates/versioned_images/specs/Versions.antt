@@ -2,7 +2,7 @@
 use Rattle.std.specs.Prelude.{◌≡◌, ℕ, Bool, true, false, List, length, find, Ok, Some}
 use Rattle.scale_base.specs.Image.{Image, image_of}
 use Rattle.loop_versions.specs.declared.pieces.Piece.{Piece}
-use Rattle.loop_versions.specs.declared.pieces.Piece.TheVariants.{Copied, Branched, Jumped, Bridge, Guard}
+use Rattle.loop_versions.specs.declared.pieces.Piece.TheVariants.{Copied, Branched, Jumped, Bridge, Guard, Entered, Returned}
 use Rattle.loop_versions.specs.declared.pieces.Site.{Site}
 use Rattle.loop_versions.specs.Pieces.{pieces_code}
 use Rattle.loop_versions.specs.Made.{IsVersioned}
@@ -14,6 +14,8 @@ is_choice (Branched at to) = false
 is_choice (Jumped at to) = false
 is_choice (Bridge at to) = false
 is_choice (Guard at larger smaller limit to) = true
+is_choice (Entered at to end) = false
+is_choice (Returned at to) = false
 
 -- A versioned image of the image of a file, with its first guard, and how many instructions its pieces have.
 pub record IsVersionOf (plain : List ℕ) (version : Version) : Type 0 where

@@ -10,7 +10,7 @@ use crate::versions::{Made, Version};
 use elf_image::ImageView;
 use elf_view::read_image;
 use loop_versions::Piece;
-use scale_base::{NoMemory, Stop};
+use scale_base::{FILE_LIMIT, IMAGE_LIMIT, NoMemory, Stop};
 use std::alloc::Global;
 use version_search::Candidate;
 
@@ -119,11 +119,12 @@ fn versions_in(alloc: Global, view: &ImageView<'_>, loops: &[u8]) -> Result<Vec<
     Ok(found)
 }
 
-/// Images in which a loop of a program is there twice, at most 8, by its image and its loop file: those first whose loops may run most
-/// often. None where the image or the loop file is refused. Which loops are taken, and with which limits, isn't promised.
+/// Images in which code of a program is there twice, at most 8, by its image and its loop file: first those of what runs behind a read, then
+/// of the loops that may run most often. None where the image or the loop file is refused. Which code is taken, and with which limits, isn't
+/// promised.
 pub fn find_versions(alloc: Global, image: &[u8], loops: &[u8]) -> Result<Vec<Version>, NoMemory>
-    requires image { length image.now ≤ 4194304 }
-    requires loops { length loops.now ≤ 1048576 }
+    requires image { length image.now ≤ IMAGE_LIMIT }
+    requires loops { length loops.now ≤ FILE_LIMIT }
     ensures few { IfOk result (λ found. length found.items ≤ 8) }
     ensures found { IfOk result (λ found. All (IsVersionOf image.now) found.items) }
 {

@@ -1,6 +1,6 @@
-//! Images in which a loop is there twice: the file that is made of an image with pieces and sites that fit it, and such files of a program's
-//! loops.
-//! Tests: crates/version_tests/src/runs.rt and versions.rt.
+//! Images in which code is there twice: the file that is made of an image with pieces and sites that fit it, and such files of a program's
+//! loops and of what runs behind a read.
+//! Tests: crates/version_tests/src/runs.rt, calls.rt and versions.rt.
 #![tactic(auto)]
 
 mod finding;

@@ -17,14 +17,11 @@ use elf_patch::{has_sections, section_count, stub_base, write_added};
 use elf_view::read_image;
 use loop_versions::{Piece, Site, are_fit, piece_len, pieces_code, site_patches};
 use rv_encode::encode;
-use scale_base::{Instr, NoMemory, Stop};
+use scale_base::{IMAGE_LIMIT, Instr, NoMemory, Stop};
 use std::alloc::Global;
 
 /// As many pieces does a versioned image have at most.
 const MOST_PIECES: usize = 4096;
-
-/// So many bytes has the file of an image at most.
-const MOST_BYTES: usize = 4_194_304;
 
 /// Below it the pieces begin.
 const BASES: u32 = 4_294_819_804;
@@ -41,7 +38,7 @@ fn is_open(view: &ImageView<'_>) -> bool
     ensures { IsTrue result ↔ IsOpen view.now }
 {
     let file = view.file();
-    file.len() <= MOST_BYTES && !is_full(file) && view.keyed().is_none()
+    file.len() <= IMAGE_LIMIT && !is_full(file) && view.keyed().is_none()
 }
 
 /// Whether a file is an image.
@@ -127,7 +124,7 @@ fn file_at(
     sites: &[Site],
     base: u32,
 ) -> Result<Vec<u8>, NoMemory>
-    requires file { length view.now.file ≤ 4194304 }
+    requires file { length view.now.file ≤ IMAGE_LIMIT }
     requires few { length pieces.now ≤ 4096 }
     requires room { base < 4294819804 }
     requires fit { fitting.are_fit view.now pieces.now sites.now base ≡ true }
@@ -156,7 +153,8 @@ fn versioned_at(
     ensures none { IfOk result (λ given. IfNone given (HasNone view.now pieces.now sites.now)) }
 {
     are_bytes(view.file());
-    if !are_fit(view, pieces, sites, base) {
+    let fits = are_fit(alloc, view, pieces, sites, base)?;
+    if !fits {
         return Ok(None);
     }
     let file = file_at(alloc, view, pieces, sites, base)?;

@@ -9,10 +9,10 @@ use scale_base::{NoMemory, Stop};
 use std::alloc::Global;
 use version_search::{Candidate, find_candidates};
 
-/// So many candidates of a loop are tried in a round.
+/// So many candidates of a loop or of a read are tried in a round.
 const ROUND_OF_LOOP: usize = 2;
 
-// The header of the loop of a candidate, where its first guard stands.
+// The word in front of which the first guard of a candidate stands: a loop's header, or the word behind a read.
 fn header_of(candidate: &Candidate) -> Option<u32> {
     for piece in &candidate.pieces {
         if let Piece::Guard { at, .. } = *piece {
@@ -72,7 +72,7 @@ pub fn candidates_of(
     }
 }
 
-// How many of the candidates in front of this one are versions of the same loop.
+// How many of the candidates in front of this one are versions of the same loop or read.
 fn earlier(candidates: &[Candidate], i: usize) -> usize {
     let Some(one) = candidates.get(i) else {
         return 0;
@@ -83,7 +83,7 @@ fn earlier(candidates: &[Candidate], i: usize) -> usize {
         .count()
 }
 
-/// The numbers of candidates in the order in which they are tried, behind a number of a round: in each round two of a loop.
+/// The numbers of candidates in the order in which they are tried, behind a number of a round: in each round two of a loop or a read.
 pub fn order_of(alloc: Global, candidates: &[Candidate]) -> Result<Vec<(usize, usize)>, NoMemory> {
     let mut order = Vec::new(alloc);
     for i in 0..candidates.len() {

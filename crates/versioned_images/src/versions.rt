@@ -7,8 +7,9 @@ pub struct Made {
     pub words: u32,
 }
 
-/// An image in which the loop with this header is there twice. The copy runs where the register `larger` less `smaller` is from 0 on and below
-/// the limit, as a signed number, when the loop is entered. So many instructions are added.
+/// An image in which code is there twice. `header` is the address of the word in front of which the guard stands: a loop's header, or the word
+/// behind a read. The copy runs where, as the run comes there, the register `larger` less `smaller` is from 0 on and below the limit, as a
+/// signed number. So many instructions are added.
 #[derive(Drop)]
 pub struct Version {
     pub header: u32,

@@ -1,5 +1,6 @@
 -- Scaffold: what is left at the nodes of a program, the turns round them, and the contexts of its functions, as tables.
 use Rattle.std.specs.Prelude.{◌≡◌, ◌≢◌, ℕ, ◌+◌, ◌^◌, ◌<◌, ◌≤◌, ◌⊎◌, true, List, length, slice_get, Some, Result, Ok, Err}
+use Rattle.scale_base.specs.declared.limits.TheConstants.{CYCLE_LIMIT}
 use Rattle.scale_base.specs.declared.refusal.Refusal.{Refusal}
 use Rattle.graph_algorithms.specs.Arcs.{number_in_place}
 use Rattle.cost_theory.specs.Graph.{Graph, Loops}
@@ -14,7 +15,7 @@ use Rattle.worst_cycles.specs.Visits.{AreSolvedBy}
 
 -- the program has its numbers, and its worst cycles are in range
 abbrev pub HasSolved : FlowGraph → LoopView → (ℕ → ℕ) → Type 0
-HasSolved v t w = (n : Numbers) × AreSolvedBy v t w n × (n.worst 0 ≤ 2 ^ 48)
+HasSolved v t w = (n : Numbers) × AreSolvedBy v t w n × (n.worst 0 ≤ CYCLE_LIMIT)
 
 -- ---- what is left
 

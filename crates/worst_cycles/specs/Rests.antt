@@ -1,5 +1,6 @@
 -- Scaffold: the rests of an iteration of a loop, by the places of its body's nodes in an order.
 use Rattle.std.specs.Prelude.{◌≡◌, ◌≢◌, ℕ, ◌+◌, ◌^◌, ◌<◌, ◌≤◌, ◌↔◌, ◌⊎◌, Bool, true, false, List, length, slice_get, slice_index_or, Option, Some, None, Result, Ok, Err}
+use Rattle.scale_base.specs.declared.limits.TheConstants.{CYCLE_LIMIT}
 use Rattle.scale_base.specs.declared.refusal.Refusal.{Refusal}
 use Rattle.scale_base.specs.declared.refusal.Refusal.TheVariants.{TooLong}
 use Rattle.graph_algorithms.specs.Arcs.{number_in_place}
@@ -33,7 +34,7 @@ rest_in found m = slice_index_or found m None
 -- rests of the first places, with numbers in range
 pub record AreRests (rests : Rests) : Type 0 where
   pub rise : (i j : ℕ) → i ≤ j → j < length rests.steps.items → number_in_place rests.steps.items i ≤ number_in_place rests.steps.items j
-  pub small : (m b : ℕ) → rest_in rests.found.items m ≡ Some b → b ≤ 2 ^ 48 + 2 ^ 32
+  pub small : (m b : ℕ) → rest_in rests.found.items m ≡ Some b → b ≤ CYCLE_LIMIT + 2 ^ 32
 
 -- what they have of the node at a place: its rest, or none where the place isn't among theirs or its rest isn't found yet
 abbrev pub IsRestOf : Rests → ℕ → Option ℕ → Type 0
@@ -107,5 +108,5 @@ AreRestsFound v t w plan l (Err refusal) = (refusal ≡ TooLong) × IsOverLimit 
 -- ---- iterations
 
 abbrev pub IsIterationFound : FlowGraph → LoopView → (ℕ → ℕ) → ℕ → Result ℕ Refusal → Type 0
-IsIterationFound v t w k (Ok x) = (x ≤ 2 ^ 48 + 2 ^ 32) × ((n : Numbers) → AreSolvedBy v t w n → x ≡ n.iteration k)
+IsIterationFound v t w k (Ok x) = (x ≤ CYCLE_LIMIT + 2 ^ 32) × ((n : Numbers) → AreSolvedBy v t w n → x ≡ n.iteration k)
 IsIterationFound v t w k (Err refusal) = (refusal ≡ TooLong) × IsOverLimit v t w

@@ -1,5 +1,6 @@
 -- Scaffold: what a pass over the nodes finds at each of them.
 use Rattle.std.specs.Prelude.{◌≡◌, ◌≢◌, ℕ, ◌+◌, ◌^◌, ◌<◌, ◌≤◌, ◌⊎◌, List, length, slice_get, slice_index, slice_index_or, Option, Some, None, Result, Ok, Err}
+use Rattle.scale_base.specs.declared.limits.TheConstants.{CYCLE_LIMIT}
 use Rattle.scale_base.specs.declared.refusal.Refusal.{Refusal}
 use Rattle.scale_base.specs.declared.refusal.Refusal.TheVariants.{TooLong}
 use Rattle.graph_algorithms.specs.Arcs.{number_in_place}
@@ -47,9 +48,9 @@ pub record IsVisit (l : Loops) (n : Numbers) (at : ℕ) (x : Visit) : Type 0 whe
   pub iteration : (k : ℕ) → k < l.loops → l.header k ≡ at → x.iteration ≡ n.iteration k
 
 pub record IsSmallVisit (x : Visit) : Type 0 where
-  pub plain : x.plain ≤ 2 ^ 48
-  pub turns : x.turns ≤ 2 ^ 48
-  pub iteration : x.iteration ≤ 2 ^ 48 + 2 ^ 32
+  pub plain : x.plain ≤ CYCLE_LIMIT
+  pub turns : x.turns ≤ CYCLE_LIMIT
+  pub iteration : x.iteration ≤ CYCLE_LIMIT + 2 ^ 32
 
 -- a table by node, with numbers in range
 pub record AreVisits (v : FlowGraph) (visits : List Visit) : Type 0 where
@@ -92,7 +93,7 @@ AreSolvedBy v t w n = AreSolved (graph v) (loops v t) w n
 
 -- the worst cycles of the program are over the limit
 abbrev pub IsOverLimit : FlowGraph → LoopView → (ℕ → ℕ) → Type 0
-IsOverLimit v t w = (n : Numbers) → AreSolvedBy v t w n → 2 ^ 48 < n.worst 0
+IsOverLimit v t w = (n : Numbers) → AreSolvedBy v t w n → CYCLE_LIMIT < n.worst 0
 
 -- the table has what is found at the first i nodes of the order
 abbrev pub AreVisitedTo : FlowGraph → LoopView → (ℕ → ℕ) → List ℕ → ℕ → List Visit → Type 0
@@ -101,9 +102,9 @@ AreVisitedTo v t w order i visits = (n : Numbers) → AreSolvedBy v t w n → (j
 
 -- what finding all turns and one iteration of the loop whose header node k is answers
 abbrev pub AreTurnsFound : FlowGraph → LoopView → (ℕ → ℕ) → ℕ → Result (ℕ × ℕ) Refusal → Type 0
-AreTurnsFound v t w k (Ok x) = (x.0 ≤ 2 ^ 48) × ((n : Numbers) → AreSolvedBy v t w n →
+AreTurnsFound v t w k (Ok x) = (x.0 ≤ CYCLE_LIMIT) × ((n : Numbers) → AreSolvedBy v t w n →
     IsTurnsAt (loops v t) n (slice_index v.code.nodes k) x.0 × ((j : ℕ) → j < (loops v t).loops →
-    (loops v t).header j ≡ slice_index v.code.nodes k → x.1 ≡ n.iteration j)) × (x.1 ≤ 2 ^ 48 + 2 ^ 32)
+    (loops v t).header j ≡ slice_index v.code.nodes k → x.1 ≡ n.iteration j)) × (x.1 ≤ CYCLE_LIMIT + 2 ^ 32)
 AreTurnsFound v t w k (Err refusal) = (refusal ≡ TooLong) × IsOverLimit v t w
 
 -- what finding the numbers of a node answers

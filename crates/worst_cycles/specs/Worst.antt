@@ -1,5 +1,6 @@
 -- The worst cycles of a program's functions, as lists: what WorstNumbers are seen as, and what finding them answers.
 use Rattle.std.specs.Prelude.{◌≡◌, ℕ, ◌^◌, ◌<◌, ◌≤◌, List, length, slice_get, slice_index, slice_index_or, Result, Ok, Err, Some, is_some}
+use Rattle.scale_base.specs.declared.limits.TheConstants.{CYCLE_LIMIT}
 use Rattle.scale_base.specs.declared.refusal.Refusal.{Refusal}
 use Rattle.scale_base.specs.declared.refusal.Refusal.TheVariants.{TooLong}
 use Rattle.cost_theory.specs.Graph.{Graph, Loops, only}
@@ -37,11 +38,11 @@ pub record IsWorstInRange (g : Graph) (l : Loops) (w : ℕ → ℕ) (v : WorstVi
   pub numbers : IsWorstOf g l w v
   pub size : length v.worst ≡ g.functions
   pub loops_size : length v.iteration ≡ l.loops
-  pub small : slice_index v.worst 0 ≤ 2 ^ 48
+  pub small : slice_index v.worst 0 ≤ CYCLE_LIMIT
 
 -- those of the program are over the limit
 abbrev pub IsWorstTooLong : Graph → Loops → (ℕ → ℕ) → Type 0
-IsWorstTooLong g l w = (n : Numbers) × AreNumbers g l w n × (2 ^ 48 < n.worst 0)
+IsWorstTooLong g l w = (n : Numbers) × AreNumbers g l w n × (CYCLE_LIMIT < n.worst 0)
 
 -- what finding them answers
 abbrev pub IsWorstFound : Graph → Loops → (ℕ → ℕ) → Result WorstView Refusal → Type 0

@@ -7,15 +7,15 @@ ghost use Rattle.worst_cycles.specs.Lefts.{AreTurnsRound};
 ghost use Rattle.worst_cycles.specs.Planned.{IsVisitedGraph};
 
 use crate::planned::VisitedGraph;
-use scale_base::NoMemory;
+use scale_base::{CYCLE_LIMIT, NoMemory};
 use std::alloc::Global;
 
 /// Adds turns at the nodes of a body.
 fn add_turns(body: &[usize], turns: u64, around: &mut Vec<u64>)
     requires within { (i : ℕ) → i < length body.now → number_in_place body.now i < length around.old.items }
     requires distinct { AreDistinct body.now }
-    requires turns { turns ≤ 2 ^ 48 }
-    requires small { (k : ℕ) → number_in_place around.old.items k ≤ 4096 * 2 ^ 48 }
+    requires turns { turns ≤ CYCLE_LIMIT }
+    requires small { (k : ℕ) → number_in_place around.old.items k ≤ 4096 * CYCLE_LIMIT }
     ensures size { length around.new.items ≡ length around.old.items }
     ensures inside { (i : ℕ) → i < length body.now → number_in_place around.new.items (number_in_place body.now i) ≡ number_in_place
         around.old.items (number_in_place body.now i) + turns }

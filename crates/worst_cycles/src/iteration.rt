@@ -13,7 +13,7 @@ use crate::plan::Plan;
 use crate::planned::PlannedGraph;
 use crate::rests::{Rests, rest_at_node};
 use crate::visits::Visit;
-use scale_base::{NoMemory, Refusal, Stop};
+use scale_base::{CYCLE_LIMIT, NoMemory, Refusal, Stop};
 use std::alloc::Global;
 
 /// The places of the nodes of a body, ascending.
@@ -33,8 +33,8 @@ fn body_places(alloc: Global, body: &[usize], plan: &Plan) -> Result<Vec<usize>,
 /// Whether a rest is over 2^48 by more than one weight. Where worst cycles are at most 2^48 none is: what an iteration of a loop of
 /// bound 0 costs is over the worst cycles by at most one weight.
 fn is_over(rest: Option<u64>, weight: u32) -> bool
-    ensures over { result ≡ true → (b : ℕ) × (rest ≡ Some b) × (2 ^ 48 + weight < b) }
-    ensures within { result ≡ false → (b : ℕ) → rest ≡ Some b → b ≤ 2 ^ 48 + 2 ^ 32 }
+    ensures over { result ≡ true → (b : ℕ) × (rest ≡ Some b) × (CYCLE_LIMIT + weight < b) }
+    ensures within { result ≡ false → (b : ℕ) → rest ≡ Some b → b ≤ CYCLE_LIMIT + 2 ^ 32 }
 {
     match rest {
         Some(cycles) => cycles > LIMIT + u64::from(weight),

@@ -14,15 +14,15 @@ use crate::plan::Plan;
 use crate::planned::VisitedGraph;
 use crate::rests::Rests;
 use crate::visits::Visit;
-use scale_base::{NoMemory, Stop};
+use scale_base::{CYCLE_LIMIT, NoMemory, Stop};
 use std::alloc::Global;
 
 /// The greater of what is left at a node and what an iteration leaves there: its rest from the node and what is left at the header,
 /// less one iteration.
 fn raised(left: u64, rest: Option<u64>, header: u64, iteration: u64) -> u64
     requires left { left ≤ 2 ^ 50 }
-    requires rest { (b : ℕ) → rest ≡ Some b → b ≤ 2 ^ 48 + 2 ^ 32 }
-    requires header { header ≤ 2 ^ 48 }
+    requires rest { (b : ℕ) → rest ≡ Some b → b ≤ CYCLE_LIMIT + 2 ^ 32 }
+    requires header { header ≤ CYCLE_LIMIT }
     requires iteration { iteration ≤ 2 ^ 50 }
     ensures higher { left ≤ result }
     ensures over { (b : ℕ) → rest ≡ Some b → b + header ≤ result + iteration }
@@ -49,7 +49,7 @@ fn raise_lefts(plan: &Plan, rests: &Rests, header: usize, iteration: u64, left: 
     requires order { (i : ℕ) → i < length plan.now.order.items → number_in_place plan.now.order.items i < length left.old.items }
     requires header { header < length left.old.items }
     requires iteration { iteration ≤ 2 ^ 50 }
-    requires small { (k : ℕ) → k < length left.old.items → number_in_place left.old.items k ≤ 2 ^ 48 }
+    requires small { (k : ℕ) → k < length left.old.items → number_in_place left.old.items k ≤ CYCLE_LIMIT }
     ensures size { length left.new.items ≡ length left.old.items }
     ensures higher { (k : ℕ) → number_in_place left.old.items k ≤ number_in_place left.new.items k }
     ensures over { (m b : ℕ) → m < length rests.now.steps.items → rest_in rests.now.found.items m ≡ Some b →

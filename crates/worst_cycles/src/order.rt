@@ -8,7 +8,7 @@ ghost use Rattle.worst_cycles.specs.Needs.{AreEntries, AreNeeds, HasTree, IsNeed
 use flow_graph::CodeGraph;
 use graph_algorithms::{Arc, Order, sort};
 use loop_forest::{LoopTree, plain_arcs};
-use scale_base::NoMemory;
+use scale_base::{NoMemory, WORD_LIMIT};
 use std::alloc::Global;
 
 /// To arcs for the plain edges that lead to a node adds one for each edge of a call, to the entry of the called function.
@@ -45,7 +45,7 @@ pub fn needed_first(
     entries: &[usize],
 ) -> Result<Vec<usize>, NoMemory>
     requires count { count ≡ length graph.now.code.nodes }
-    requires few { count ≤ 131072 }
+    requires few { count ≤ WORD_LIMIT }
     requires flow { IsFlowGraph graph.now }
     requires tree { HasTree graph.now tree.now }
     requires entries { AreEntries graph.now entries.now }

@@ -10,7 +10,7 @@ ghost use Rattle.worst_cycles.specs.Planned.{IsPlannedGraph};
 use crate::iteration::iteration_of;
 use crate::planned::PlannedGraph;
 use crate::visits::{Visit, plain_at_node};
-use scale_base::{Refusal, Stop};
+use scale_base::{CYCLE_LIMIT, Refusal, Stop};
 use std::alloc::Global;
 
 /// The most worst cycles that a program may have.
@@ -18,8 +18,8 @@ pub const LIMIT: u64 = 1 << 48;
 
 /// A bound times the cost of an iteration, if it is at most 2^48.
 fn all_turns(bound: u32, iteration: u64) -> Option<u64>
-    ensures some { (x : ℕ) → result ≡ Some x → (x ≡ bound * iteration) × (x ≤ 2 ^ 48) }
-    ensures none { result ≡ None → 2 ^ 48 < bound * iteration }
+    ensures some { (x : ℕ) → result ≡ Some x → (x ≡ bound * iteration) × (x ≤ CYCLE_LIMIT) }
+    ensures none { result ≡ None → CYCLE_LIMIT < bound * iteration }
 {
     let turns = u128::from(bound) * u128::from(iteration);
     if turns > u128::from(LIMIT) {

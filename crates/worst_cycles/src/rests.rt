@@ -10,6 +10,7 @@ ghost use Rattle.worst_cycles.specs.Planned.{IsPlannedGraph};
 
 use crate::planned::PlannedGraph;
 use crate::visits::{Visit, cost_of};
+use scale_base::CYCLE_LIMIT;
 
 /// The rests of an iteration of a loop from the nodes of its body, each the greatest cost of a plain path within the body
 /// and a back edge of the loop.
@@ -26,7 +27,7 @@ impl Rests {
     pub fn at(&self, place: usize) -> Option<u64>
         requires rests { AreRests self.now }
         ensures rest { IsRestOf self.now place result }
-        ensures small { (b : ℕ) → result ≡ Some b → b ≤ 2 ^ 48 + 2 ^ 32 }
+        ensures small { (b : ℕ) → result ≡ Some b → b ≤ CYCLE_LIMIT + 2 ^ 32 }
     {
         // In straight code an edge leads to the node whose rest was found last.
         let count = self.found.len();
@@ -41,7 +42,7 @@ impl Rests {
     fn search(&self, place: usize) -> Option<u64>
         requires rests { AreRests self.now }
         ensures rest { IsRestOf self.now place result }
-        ensures small { (b : ℕ) → result ≡ Some b → b ≤ 2 ^ 48 + 2 ^ 32 }
+        ensures small { (b : ℕ) → result ≡ Some b → b ≤ CYCLE_LIMIT + 2 ^ 32 }
     {
         match self.steps.binary_search(&place) {
             Ok(m) => {

@@ -1,6 +1,7 @@
 -- Where the worst cycles of a program go: what the bytes of an image, of a machine file and of a loop file give.
 use Rattle.std.specs.Prelude.{◌≡◌, ℕ, ◌^◌, ◌≤◌, List, Option, Some, None, Result, Ok, Err}
 use Rattle.std.specs.Global.{Vec}
+use Rattle.scale_base.specs.declared.limits.TheConstants.{CYCLE_LIMIT}
 use Rattle.scale_base.specs.declared.refusal.Refusal.{Refusal}
 use Rattle.scale_base.specs.declared.summary.Summary.{Summary}
 use Rattle.scale_base.specs.Image.{Image, image_of}
@@ -35,7 +36,7 @@ pub record IsProgramExplained (power : PowerModel) (image : Image) (notes : List
   pub code_is : IsGraphOf (text_of image) code
   pub tree_is : IsTreeOf code notes tree
   pub numbers_are : AreNumbers (graph code) (loops code tree) (plain_weights power image code) numbers
-  pub short : numbers.worst 0 ≤ 2 ^ 48
+  pub short : numbers.worst 0 ≤ CYCLE_LIMIT
   pub worst : explained.worst ≡ numbers.worst 0
   pub start : ℕ
   pub in_time : slowest_of power (numbers.worst 0) ≡ Some start

@@ -6,5 +6,5 @@ use Rattle.level_tables.proofs.exit_rows_within.Given as goal
 
 abbrev pub invariant-loop-j : goal.invariant-loop-j
 invariant-loop-j l = record {
-  rows : l.rows ≡ map (row_by l.power (meets_in_budget l.power (budget_at l.budgets)) l.bound l.iteration (record { slack = l.slack; left = l.left; least = l.least })) (range_with_len 0 l.j);
+  rows : l.rows ≡ map (row_by l.power (meets_in_budget l.power (budget_at l.budgets)) l.bound l.iteration l.edge) (range_with_len 0 l.j);
 }

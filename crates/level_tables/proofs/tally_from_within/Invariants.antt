@@ -10,8 +10,8 @@ invariant-loop-low l = record {
   order : l.low ≤ l.high;
   few : l.high ≤ 2047;
   shift : l.s ≡ tally_shift l.bound;
-  fails : (k : ℕ) → 1 ≤ k → k < l.low → goes_lowest l.power (meets_in_budget l.power (budget_at l.budgets)) (behind_turns (k * 2 ^ tally_shift l.bound) l.iteration (record { slack = l.slack; left = l.left; least = l.least })) ≡ false;
-  goes : l.high < 2047 → goes_lowest l.power (meets_in_budget l.power (budget_at l.budgets)) (behind_turns (l.high * 2 ^ tally_shift l.bound) l.iteration (record { slack = l.slack; left = l.left; least = l.least })) ≡ true;
+  fails : (k : ℕ) → 1 ≤ k → k < l.low → goes_lowest l.power (meets_in_budget l.power (budget_at l.budgets)) (behind_turns (k * 2 ^ tally_shift l.bound) l.iteration l.edge) ≡ false;
+  goes : l.high < 2047 → goes_lowest l.power (meets_in_budget l.power (budget_at l.budgets)) (behind_turns (l.high * 2 ^ tally_shift l.bound) l.iteration l.edge) ≡ true;
 }
 
 abbrev pub decreases-loop-low : goal.decreases-loop-low

@@ -1,6 +1,6 @@
 -- The answers that `hold` may give agree.
 use Rattle.std.proofs.Common.{◌≡◌, ℕ, List, sym, ap, subst, ◌∙◌, ◌⊎◌, inl, inr}
-use Rattle.scale_base.specs.Image.{Image, image_of}
+use Rattle.scale_base.specs.Image.{Image}
 use Rattle.power_model.specs.Numbers.{PowerModel}
 use Rattle.power_model.specs.Price.{cycles_of}
 use Rattle.loop_file.specs.declared.notes.LoopNote.{LoopNote}

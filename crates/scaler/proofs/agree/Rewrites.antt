@@ -4,7 +4,7 @@ use Rattle.std.specs.Prelude.{min}
 use Rattle.scale_base.specs.declared.fragments.Mark.{Mark}
 use Rattle.scale_base.specs.declared.refusal.Refusal.TheVariants.{DeadlineMissed}
 use Rattle.scale_base.specs.declared.stepping.Class.{Class}
-use Rattle.scale_base.specs.Image.{Image, image_of}
+use Rattle.scale_base.specs.Image.{Image}
 use Rattle.power_model.specs.Numbers.{PowerModel}
 use Rattle.power_model.specs.Price.{time_at}
 use Rattle.power_model.specs.Slowest.{slowest_of, fastest}

@@ -17,6 +17,7 @@ use Rattle.loop_file.specs.declared.notes.LoopNote.{LoopNote}
 use Rattle.loop_forest.specs.Tree.{LoopView, loops}
 use Rattle.worst_cycles.specs.Worst.{slack_at, rest_at}
 use Rattle.level_tables.specs.Tables as tables
+use Rattle.level_tables.specs.declared.edge_numbers.EdgeNumbers.{EdgeNumbers}
 use Rattle.scale_sites.specs.Counters.{counted_loops}
 use Rattle.scale_sites.specs.Sites.{is_branch}
 use Rattle.rewritten_runs.specs.Stubs.{IsWeighed, marks_by_slack, extra_weights, stored_weights, tail_at, told_at, loop_of, fragment_of, fragments_at}
@@ -32,7 +33,7 @@ map_same P f g (x ∷ xs) all each =
     ap (λ y. y ∷ map f xs) (each x (all 0 x (omega arith))) ∙
     ap (λ ys. g x ∷ ys) (map_same P f g xs (λ k d lt. all (suc k) d (omega arith)) each)
 
-abbrev told : ℕ → ℕ → Option ℕ → tables.EdgeNumbers
+abbrev told : ℕ → ℕ → Option ℕ → EdgeNumbers
 told slack left least = record { slack = slack; left = left; least = least }
 
 module _ (power : PowerModel) (image : Image) (notes : List LoopNote) (v v' : FlowGraph) (t t' : LoopView) (plain plain' stored stored' : Numbers)
@@ -82,7 +83,7 @@ module _ (power : PowerModel) (image : Image) (notes : List LoopNote) (v v' : Fl
         ap (λ (m : ℕ → List Mark). told s' (r' + tail_at power m e) (option_map (λ y. y + tail_at power m e) z')) same_marks
 
     -- the counter of an exit, or of a tally, is that of a counted loop
-    fragment_same : (e : ℕ) (x : tables.EdgeNumbers) (m : Mark) → IsMarkOf (loops v t) (counted_loops t) (is_branch v e) ((graph v).source e) ((graph v).target e) m →
+    fragment_same : (e : ℕ) (x : EdgeNumbers) (m : Mark) → IsMarkOf (loops v t) (counted_loops t) (is_branch v e) ((graph v).source e) ((graph v).target e) m →
         fragment_of power (loops v t) (counted_loops t) stored x m ≡ fragment_of power (loops v t) (counted_loops t) stored' x m
     fragment_same e x marks.Switch is = refl
     fragment_same e x (marks.Exit c) is =
@@ -111,7 +112,7 @@ module _ (power : PowerModel) (image : Image) (notes : List LoopNote) (v v' : Fl
         (marked e) (marks_of_edge power image notes v t plain stored one e) (fragment_same e x) ∙
         ap (λ (l : Loops). map (fragment_of power l (counted_loops t) stored' x) (marked e)) (trees power image notes v v' t t' plain plain' stored stored' one other).loops ∙
         ap (λ (c : List ℕ). map (fragment_of power (loops v' t') c stored' x) (marked e)) (counted_same power image notes v v' t t' plain plain' stored stored' one other) ∙
-        ap (λ (y : tables.EdgeNumbers). map (fragment_of power (loops v' t') (counted_loops t') stored' y) (marked e)) (told_same e) ∙
+        ap (λ (y : EdgeNumbers). map (fragment_of power (loops v' t') (counted_loops t') stored' y) (marked e)) (told_same e) ∙
         ap (λ (m : ℕ → List Mark). map (fragment_of power (loops v' t') (counted_loops t') stored' x') (m e)) same_marks
 
     pub fragments_same : fragments_at power image v t marked stored least ≡ fragments_at power image v' t' marked' stored' least'

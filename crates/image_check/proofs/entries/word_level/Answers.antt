@@ -1,5 +1,4 @@
 use Rattle.std.proofs.Common.{◌≡◌, ◌*◌, ◌/◌, ◌%◌, ◌^◌, ℕ, true, sym, ap, ◌∙◌, arith, below_more}
-use Rattle.image_check.specs.Entries.{told_numbers}
 use Rattle.image_check.proofs.EntryLaws.{good_entry}
 use Rattle.image_check.proofs.entries.word_level.Goals as goal
 
@@ -10,5 +9,5 @@ loop-i-preserved c =
     let good : c.is_safe.result ≡ true = grind arith in
     record {
       few = c.loop-i.invariant.few;
-      fine = below_more _ _ c.loop-i.invariant.fine (good_entry c.args.power.now (told_numbers c.args.told.now) c.args.word c.loop-i.i (entry c.from.result) (ap entry number) (sym c.is_safe.ensures ∙ good));
+      fine = below_more _ _ c.loop-i.invariant.fine (good_entry c.args.power.now c.args.told.now c.args.word c.loop-i.i (entry c.from.result) (ap entry number) (sym c.is_safe.ensures ∙ good));
     }

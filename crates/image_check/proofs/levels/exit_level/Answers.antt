@@ -4,7 +4,6 @@ use Rattle.std.proofs.Common.{List}
 use Rattle.foreign_scan.specs.declared.fragment.ForeignFragment.{ForeignFragment}
 use Rattle.foreign_scan.specs.declared.fragment.ForeignFragment.TheVariants.{Exit}
 use Rattle.foreign_scan.specs.Form.{IsForeign}
-use Rattle.image_check.specs.Entries.{told_numbers}
 use Rattle.image_check.proofs.FoundFacts.{fine_on}
 use Rattle.image_check.proofs.LevelLaws.{exit_loop, exit_rows, exit_is}
 use Rattle.image_check.proofs.levels.exit_level.Goals as goal
@@ -52,4 +51,4 @@ returns c = λ original foreign found w n least by.
     let bound_is = get_or_from_slice_get c.args.known.now.tree.now.bounds c.in-Some.k c.bound-bound.result 0 c.bound-bound.ensures in
     let iteration_is = same_Some c.iteration-iteration.result (n.iteration c.in-Some.k) (sym c.iteration-iteration.ensures ∙ by.known.weighed.iteration c.in-Some.k low) in
     exit_is c.args.known.now original foreign found w n least by c.args.e c.requires.leads.1.0 c.args.counter c.args.shift c.args.table c.in-Some.k c.bound-bound.result c.iteration-iteration.result c.requires.exit.0
-    (told_numbers c.told_at-told.result) c.table_level.result c.requires.leads.0 c.requires.leads.1.1 c.requires.exit.1 (c.told_at-told.ensures.told original foreign found w n least by) (sym c.in-Some.ensures) (sym bound_is) iteration_is c.table_level.ensures
+    c.told_at-told.result c.table_level.result c.requires.leads.0 c.requires.leads.1.1 c.requires.exit.1 (c.told_at-told.ensures.told original foreign found w n least by) (sym c.in-Some.ensures) (sym bound_is) iteration_is c.table_level.ensures

@@ -11,14 +11,14 @@ use Rattle.image_check.proofs.uses.take_edge.Goals as goal
 
 pub take_fragment-requires-clause-foreign : goal.take_fragment-requires-clause-foreign
 take_fragment-requires-clause-foreign c =
-    let on : on_edge c.args.sites.now c.args.e ≡ c.fragments-fragments.result.now = get_or_from_slice_get c.args.sites.now.fragments c.args.e c.fragments-fragments.result.now [] c.fragments-fragments.ensures in
-    let fine = fine_on c.requires.found.0 c.requires.found.1 c.args.graph.now c.args.tree.now c.requires.found.2 c.args.sites.now c.requires.found.3 c.args.e c.requires.edge in
+    let on : on_edge c.args.scanned.now.sites.now c.args.e ≡ c.fragments-fragments.result.now = get_or_from_slice_get c.args.scanned.now.sites.now.fragments c.args.e c.fragments-fragments.result.now [] c.fragments-fragments.ensures in
+    let fine = fine_on c.requires.found.0 c.requires.found.1 c.args.scanned.now.graph.now c.args.scanned.now.tree.now c.requires.found.2 c.args.scanned.now.sites.now c.requires.found.3 c.args.e c.requires.edge in
     (subst (λ (fs : List ForeignFragment). All IsForeign fs) on fine.foreign) c.loop-fragment.fragment-index _ c.loop-fragment-test.true
 
 pub take_fragment-requires-clause-counts : goal.take_fragment-requires-clause-counts
 take_fragment-requires-clause-counts c = λ k.
-    let on : on_edge c.args.sites.now c.args.e ≡ c.fragments-fragments.result.now = get_or_from_slice_get c.args.sites.now.fragments c.args.e c.fragments-fragments.result.now [] c.fragments-fragments.ensures in
-    let fine = fine_on c.requires.found.0 c.requires.found.1 c.args.graph.now c.args.tree.now c.requires.found.2 c.args.sites.now c.requires.found.3 c.args.e c.requires.edge in
+    let on : on_edge c.args.scanned.now.sites.now c.args.e ≡ c.fragments-fragments.result.now = get_or_from_slice_get c.args.scanned.now.sites.now.fragments c.args.e c.fragments-fragments.result.now [] c.fragments-fragments.ensures in
+    let fine = fine_on c.requires.found.0 c.requires.found.1 c.args.scanned.now.graph.now c.args.scanned.now.tree.now c.requires.found.2 c.args.scanned.now.sites.now c.requires.found.3 c.args.e c.requires.edge in
     let few = subst (λ (fs : List ForeignFragment). length fs ≤ 64) on fine.few in
     let small = (c.loop-fragment.invariant.small k).0 in
     let lt = c.loop-fragment-test.true in
@@ -27,8 +27,8 @@ take_fragment-requires-clause-counts c = λ k.
 
 pub take_fragment-requires-clause-clears : goal.take_fragment-requires-clause-clears
 take_fragment-requires-clause-clears c = λ k.
-    let on : on_edge c.args.sites.now c.args.e ≡ c.fragments-fragments.result.now = get_or_from_slice_get c.args.sites.now.fragments c.args.e c.fragments-fragments.result.now [] c.fragments-fragments.ensures in
-    let fine = fine_on c.requires.found.0 c.requires.found.1 c.args.graph.now c.args.tree.now c.requires.found.2 c.args.sites.now c.requires.found.3 c.args.e c.requires.edge in
+    let on : on_edge c.args.scanned.now.sites.now c.args.e ≡ c.fragments-fragments.result.now = get_or_from_slice_get c.args.scanned.now.sites.now.fragments c.args.e c.fragments-fragments.result.now [] c.fragments-fragments.ensures in
+    let fine = fine_on c.requires.found.0 c.requires.found.1 c.args.scanned.now.graph.now c.args.scanned.now.tree.now c.requires.found.2 c.args.scanned.now.sites.now c.requires.found.3 c.args.e c.requires.edge in
     let few = subst (λ (fs : List ForeignFragment). length fs ≤ 64) on fine.few in
     let small = (c.loop-fragment.invariant.small k).1 in
     let lt = c.loop-fragment-test.true in
@@ -37,18 +37,18 @@ take_fragment-requires-clause-clears c = λ k.
 
 pub returns-clause-taken : goal.returns-clause-taken
 returns-clause-taken c =
-    let on : on_edge c.args.sites.now c.args.e ≡ c.fragments-fragments.result.now = get_or_from_slice_get c.args.sites.now.fragments c.args.e c.fragments-fragments.result.now [] c.fragments-fragments.ensures in (
+    let on : on_edge c.args.scanned.now.sites.now c.args.e ≡ c.fragments-fragments.result.now = get_or_from_slice_get c.args.scanned.now.sites.now.fragments c.args.e c.fragments-fragments.result.now [] c.fragments-fragments.ensures in (
       c.loop-fragment.invariant.size,
       λ k.
-          edge_last (fits_on c.args.graph.now c.args.tree.now c.args.sites.now (owner_by c.args.owners.now k) k c.args.e) k c.fragments-fragments.result.now c.loop-fragment.fragment-index (slice_index_or c.loop-fragment.tallies.items k no_tally)
-          (taken k (fits_on c.args.graph.now c.args.tree.now c.args.sites.now (owner_by c.args.owners.now k) k c.args.e) c.fragments-fragments.result.now (slice_index_or c.args.tallies.now.items k no_tally)) c.loop-fragment-test.false (c.loop-fragment.invariant.taken k)
-          ∙ ap (λ xs. taken k (fits_on c.args.graph.now c.args.tree.now c.args.sites.now (owner_by c.args.owners.now k) k c.args.e) xs (slice_index_or c.args.tallies.now.items k no_tally)) (sym on),
+          edge_last (fits_on c.args.scanned.now.graph.now c.args.scanned.now.tree.now c.args.scanned.now.sites.now (owner_by c.args.owners.now k) k c.args.e) k c.fragments-fragments.result.now c.loop-fragment.fragment-index (slice_index_or c.loop-fragment.tallies.items k no_tally)
+          (taken k (fits_on c.args.scanned.now.graph.now c.args.scanned.now.tree.now c.args.scanned.now.sites.now (owner_by c.args.owners.now k) k c.args.e) c.fragments-fragments.result.now (slice_index_or c.args.tallies.now.items k no_tally)) c.loop-fragment-test.false (c.loop-fragment.invariant.taken k)
+          ∙ ap (λ xs. taken k (fits_on c.args.scanned.now.graph.now c.args.scanned.now.tree.now c.args.scanned.now.sites.now (owner_by c.args.owners.now k) k c.args.e) xs (slice_index_or c.args.tallies.now.items k no_tally)) (sym on),
     )
 
 pub returns-clause-small : goal.returns-clause-small
 returns-clause-small c = λ k.
-    let on : on_edge c.args.sites.now c.args.e ≡ c.fragments-fragments.result.now = get_or_from_slice_get c.args.sites.now.fragments c.args.e c.fragments-fragments.result.now [] c.fragments-fragments.ensures in
-    let fine = fine_on c.requires.found.0 c.requires.found.1 c.args.graph.now c.args.tree.now c.requires.found.2 c.args.sites.now c.requires.found.3 c.args.e c.requires.edge in
+    let on : on_edge c.args.scanned.now.sites.now c.args.e ≡ c.fragments-fragments.result.now = get_or_from_slice_get c.args.scanned.now.sites.now.fragments c.args.e c.fragments-fragments.result.now [] c.fragments-fragments.ensures in
+    let fine = fine_on c.requires.found.0 c.requires.found.1 c.args.scanned.now.graph.now c.args.scanned.now.tree.now c.requires.found.2 c.args.scanned.now.sites.now c.requires.found.3 c.args.e c.requires.edge in
     let few = subst (λ (fs : List ForeignFragment). length fs ≤ 64) on fine.few in
     let counts = (c.loop-fragment.invariant.small k).0 in
     let clears = (c.loop-fragment.invariant.small k).1 in

@@ -18,19 +18,19 @@ fragment_of-requires-clause-mark c =
 
 pub loop-mark-preserved : goal.loop-mark-preserved
 loop-mark-preserved c = λ image wanted stored least is.
-    let f = fragment_by c.args.power.now (test_of c.args.power.now c.args.marking.now) (loops c.args.graph.now c.args.tree.now) (counted_loops c.args.tree.now) stored (told_at c.args.power.now image c.args.graph.now c.args.tree.now (marked_where c.args.graph.now c.args.tree.now wanted) stored least c.args.e) in
+    let f = fragment_by c.args.power.now (test_of c.args.power.now c.args.marked.now.marking) (loops c.args.marked.now.graph c.args.marked.now.tree) (counted_loops c.args.marked.now.tree) stored (told_at c.args.power.now image c.args.marked.now.graph c.args.marked.now.tree (marked_where c.args.marked.now.graph c.args.marked.now.tree wanted) stored least c.args.e) in
     let i = c.loop-mark.mark-index in
     let xs = c.marks-mark-items.result.now in
     c.in_ok-push.ensures.items
     ∙ (ap (λ ys. ys ++ c.fragment_of.result ∷ []) (c.loop-mark.invariant image wanted stored least is)
-    ∙ (ap (λ y. map f (take i (marks_at_edge c.args.marking.now.sites c.args.e)) ++ y ∷ []) (c.fragment_of.ensures image wanted stored least is)
+    ∙ (ap (λ y. map f (take i (marks_at_edge c.args.marked.now.marking.sites c.args.e)) ++ y ∷ []) (c.fragment_of.ensures image wanted stored least is)
     ∙ (ap (λ ys. map f (take i ys) ++ f (get_or xs i marks.Switch) ∷ []) (sym c.marks-mark-items.ensures)
     ∙ (sym (map_take_more f xs i marks.Switch c.loop-mark-test.true)
     ∙ (ap (λ n. map f (take n xs)) (sym (step_is i)) ∙ ap (λ ys. map f (take (i + 1) ys)) c.marks-mark-items.ensures)))))
 
 pub returns : goal.returns
 returns c = λ image wanted stored least is.
-    let f = fragment_by c.args.power.now (test_of c.args.power.now c.args.marking.now) (loops c.args.graph.now c.args.tree.now) (counted_loops c.args.tree.now) stored (told_at c.args.power.now image c.args.graph.now c.args.tree.now (marked_where c.args.graph.now c.args.tree.now wanted) stored least c.args.e) in
-    let xs = marks_at_edge c.args.marking.now.sites c.args.e in
+    let f = fragment_by c.args.power.now (test_of c.args.power.now c.args.marked.now.marking) (loops c.args.marked.now.graph c.args.marked.now.tree) (counted_loops c.args.marked.now.tree) stored (told_at c.args.power.now image c.args.marked.now.graph c.args.marked.now.tree (marked_where c.args.marked.now.graph c.args.marked.now.tree wanted) stored least c.args.e) in
+    let xs = marks_at_edge c.args.marked.now.marking.sites c.args.e in
     let long : length xs ≤ c.loop-mark.mark-index = (let n = ap length c.marks-mark-items.ensures in let t = c.loop-mark-test.false in omega (arith, n, t)) in
     c.from_vec.ensures ∙ (c.loop-mark.invariant image wanted stored least is ∙ (ap (map f) (take_all xs c.loop-mark.mark-index long) ∙ ap (map f) (is.marks c.args.e c.requires.edge)))

@@ -9,5 +9,5 @@ use Rattle.marked_images.proofs.SiteLists.{AreStubsBelow}
 use Rattle.marked_images.proofs.stubs.stub_sites.Given as goal
 
 abbrev pub invariant-loop-k : goal.invariant-loop-k
-invariant-loop-k l = (length l.stubs.items ≤ l.k) × ((notes : List LoopNote) (wanted : Wanted) (stored : Numbers) (least : Charged) → IsWeighedWith l.power l.view notes l.graph l.tree (marked_where l.graph l.tree wanted) stored → IsMarking l.power l.view l.graph l.tree wanted stored least l.marking →
-    AreStubsBelow l.view l.graph (fragments_with l.power (test_of l.power l.marking) l.view l.graph l.tree (marked_where l.graph l.tree wanted) stored least) l.k l.stubs.items)
+invariant-loop-k l = (length l.stubs.items ≤ l.k) × ((notes : List LoopNote) (wanted : Wanted) (stored : Numbers) (least : Charged) → IsWeighedWith l.power l.view notes l.marked.graph l.marked.tree (marked_where l.marked.graph l.marked.tree wanted) stored → IsMarking l.power l.view l.marked.graph l.marked.tree wanted stored least l.marked.marking →
+    AreStubsBelow l.view l.marked.graph (fragments_with l.power (test_of l.power l.marked.marking) l.view l.marked.graph l.marked.tree (marked_where l.marked.graph l.marked.tree wanted) stored least) l.k l.stubs.items)

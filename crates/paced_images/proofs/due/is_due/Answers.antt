@@ -1,7 +1,6 @@
 use Rattle.std.proofs.Common.{◌≡◌, ◌&&◌, arith, sym, ap, ◌∙◌}
 use Rattle.std.specs.Prelude.{slice_index}
 use Rattle.scale_base.specs.declared.fragments.Mark.TheVariants as marks
-use Rattle.marked_images.specs.Markings.{told_view}
 use Rattle.paced_images.proofs.DueFacts.{due_here}
 use Rattle.marked_images.proofs.Laws.{marking_switches, tally_is}
 use Rattle.paced_images.proofs.due.is_due.Goals as goal
@@ -53,7 +52,7 @@ returns-then-is_header c = λ image wanted stored least is.
     let loop : c.get-l.result.now ≡ x.loop = c.get-l.ensures ∙ (ap (slice_index m.marking.counters) place ∙ x.get) in
     let small = x.small in
     sym (ap (λ a. a && c.comes_due-due.result) c.if-is_header.true)
-    ∙ due_here c.args.power.now image m.graph m.tree wanted stored least m.marking is m.start c.args.header c.args.e c.requires.edge c.args.counter c.get-l.result.now c.bound-bound.result c.iteration-iteration.result (told_view c.told_at-told.result) c.is_header.result c.comes_due-due.result
+    ∙ due_here c.args.power.now image m.graph m.tree wanted stored least m.marking is m.start c.args.header c.args.e c.requires.edge c.args.counter c.get-l.result.now c.bound-bound.result c.iteration-iteration.result c.told_at-told.result c.is_header.result c.comes_due-due.result
     (omega (arith, loop, small)) (x.loop_is ∙ sym loop) c.bound-bound.ensures c.iteration-iteration.ensures (c.told_at-told.ensures.told image wanted stored least is) c.is_header.ensures c.comes_due-due.ensures
 
 pub returns-else-is_header : goal.returns-else-is_header
@@ -65,5 +64,5 @@ returns-else-is_header c = λ image wanted stored least is.
     let loop : c.get-l.result.now ≡ x.loop = c.get-l.ensures ∙ (ap (slice_index m.marking.counters) place ∙ x.get) in
     let small = x.small in
     c.if-is_header.false ∙ (sym (ap (λ a. a && c.comes_due-due.result) c.if-is_header.false)
-    ∙ due_here c.args.power.now image m.graph m.tree wanted stored least m.marking is m.start c.args.header c.args.e c.requires.edge c.args.counter c.get-l.result.now c.bound-bound.result c.iteration-iteration.result (told_view c.told_at-told.result) c.is_header.result c.comes_due-due.result
+    ∙ due_here c.args.power.now image m.graph m.tree wanted stored least m.marking is m.start c.args.header c.args.e c.requires.edge c.args.counter c.get-l.result.now c.bound-bound.result c.iteration-iteration.result c.told_at-told.result c.is_header.result c.comes_due-due.result
     (omega (arith, loop, small)) (x.loop_is ∙ sym loop) c.bound-bound.ensures c.iteration-iteration.ensures (c.told_at-told.ensures.told image wanted stored least is) c.is_header.ensures c.comes_due-due.ensures)

@@ -8,8 +8,8 @@ returns c =
     let v = c.args.graph.now in
     let t = c.args.tree.now in
     if_ok _ _ c.form_sites.result (λ s forms.
-    has_marks v t c.args.sites.now c.args.tallied.now c.args.counters.now c.deref.result.now c.deref-2.result.now c.deref-3.result.now c.in_ok-marks.marks s c.requires.counters
-    (subst (AreFlags c.args.graph.now c.args.sites.now (length c.args.graph.now.code.edges)) (sym c.deref.ensures.value) c.in_ok-flags.ensures)
-    (subst (AreLowest c.args.graph.now c.args.sites.now (length c.args.graph.now.code.edges)) (sym c.deref-2.ensures.value) c.in_ok-lowest.ensures)
-    (subst (AreTallied c.args.graph.now c.args.tree.now c.args.tallied.now) (sym c.deref-3.ensures.value) c.in_ok-tallied.ensures)
+    has_marks v t c.args.chosen.now.sites.now c.args.chosen.now.tallied.now c.args.counters.now c.deref.result.now c.deref-2.result.now c.deref-3.result.now c.in_ok-marks.marks s c.requires.counters
+    (subst (AreFlags c.args.graph.now c.args.chosen.now.sites.now (length c.args.graph.now.code.edges)) (sym c.deref.ensures.value) c.in_ok-flags.ensures)
+    (subst (AreLowest c.args.graph.now c.args.chosen.now.sites.now (length c.args.graph.now.code.edges)) (sym c.deref-2.ensures.value) c.in_ok-lowest.ensures)
+    (subst (AreTallied c.args.graph.now c.args.tree.now c.args.chosen.now.tallied.now) (sym c.deref-3.ensures.value) c.in_ok-tallied.ensures)
     c.in_ok-marks.ensures forms) c.form_sites.ensures

@@ -26,12 +26,12 @@ pub stored_file-requires-clause-no_key : goal.stored_file-requires-clause-no_key
 stored_file-requires-clause-no_key c = let p = c.in_ok-program.program in no_key p.view.keyed_segment c.in_ok-program.ensures.unscaled
 
 pub stored_file-requires-clause-scaled : goal.stored_file-requires-clause-scaled
-stored_file-requires-clause-scaled c = let p = c.in_ok-program.program in let h = c.in_ok-program.ensures in (p.power, notes_by c.args.counted c.args.tallied.now h.notes, _, _, _, _, h.in_range, h.scaled)
+stored_file-requires-clause-scaled c = let p = c.in_ok-program.program in let h = c.in_ok-program.ensures in (p.power, notes_by c.args.marks.now.counted c.args.marks.now.tallied.now h.notes, _, _, _, _, h.in_range, h.scaled)
 
 pub returns-in_err-program : goal.returns-in_err-program
 returns-in_err-program c =
     let p = err_from_is_err_and c.from_residual.result c.from_residual.ensures.1 in
-    rw (p.1, p.2) (program_stops c.args.image.now c.args.machine.now c.args.loops.now c.args.sites.now c.args.counted c.args.tallied.now c.args.share c.in_err-program.field-0.0 c.in_err-program.ensures)
+    rw (p.1, p.2) (program_stops c.args.image.now c.args.machine.now c.args.loops.now c.args.marks.now.sites.now c.args.marks.now.counted c.args.marks.now.tallied.now c.args.marks.now.share c.in_err-program.field-0.0 c.in_err-program.ensures)
 
 pub returns : goal.returns
-returns c = files_given c.args.image.now c.args.machine.now c.args.loops.now c.args.sites.now c.args.counted c.args.tallied.now c.args.share c.in_ok-program.program c.in_ok-bytes.bytes.items c.in_ok-program.ensures c.in_ok-bytes.ensures
+returns c = files_given c.args.image.now c.args.machine.now c.args.loops.now c.args.marks.now.sites.now c.args.marks.now.counted c.args.marks.now.tallied.now c.args.marks.now.share c.in_ok-program.program c.in_ok-bytes.bytes.items c.in_ok-program.ensures c.in_ok-bytes.ensures

@@ -11,7 +11,7 @@ use Rattle.program_sources.specs.Sources.{sources_of}
 use Rattle.program_sources.proofs.Laws.{sources_parts}
 use Rattle.marked_images.proofs.Laws.{HoldAnswers, read_again}
 use Rattle.marked_images.specs.declared.scaling.Program.{Program}
-use Rattle.marked_images.specs.declared.scaling.Marked.{Marked}
+use Rattle.marked_images.specs.declared.stubs.Marked.{Marked}
 use Rattle.marked_images.specs.declared.scaling.Scaling.{Scaling}
 use Rattle.marked_images.specs.Scalings.{IsScaled, IsScalingFound}
 use Rattle.paced_images.specs.declared.wanted.SwitchSite.{SwitchSite}
@@ -56,15 +56,15 @@ scaling_of-requires-clause-marked c = (c.in_ok-notes.notes, _, _, c.in_ok-marked
 pub returns-in_err-sources : goal.returns-in_err-sources
 returns-in_err-sources c =
     let p = err_from_is_err_and c.from_residual.result c.from_residual.ensures.1 in
-    rw (p.1, p.2) (stopped c.args.image.now c.args.machine.now c.args.loops.now c.args.sites.now c.args.counted c.args.tallied.now c.args.share c.in_err-sources.field-0.0 (files_stop c.args.image.now c.args.machine.now c.args.loops.now c.args.sites.now c.args.counted c.args.tallied.now c.args.share c.in_err-sources.field-0.0 c.in_err-sources.ensures.sources))
+    rw (p.1, p.2) (stopped c.args.image.now c.args.machine.now c.args.loops.now c.args.marks.now.sites.now c.args.marks.now.counted c.args.marks.now.tallied.now c.args.marks.now.share c.in_err-sources.field-0.0 (files_stop c.args.image.now c.args.machine.now c.args.loops.now c.args.marks.now.sites.now c.args.marks.now.counted c.args.marks.now.tallied.now c.args.marks.now.share c.in_err-sources.field-0.0 c.in_err-sources.ensures.sources))
 
 pub returns-in_err-marked : goal.returns-in_err-marked
 returns-in_err-marked c =
     let p = err_from_is_err_and c.from_residual-in_err-marked.result c.from_residual-in_err-marked.ensures.1 in
     let s = c.in_ok-sources.sources in
     let stop = c.in_err-marked.field-0.0 in
-    rw (p.1, p.2) (marked_stops c.args.image.now c.args.machine.now c.args.loops.now c.args.sites.now c.args.counted c.args.tallied.now c.args.share s stop c.in_ok-sources.ensures.sources
-    (subst (λ (ns : List LoopNote). AnswersBy {X = Marked} {Y = Marked} (λ m. m) (Err c.in_err-marked.field-0.0) (IsMarkedFound s.power s.view ns c.args.sites.now c.args.tallied.now c.args.share)) c.in_ok-notes.ensures c.in_err-marked.ensures))
+    rw (p.1, p.2) (marked_stops c.args.image.now c.args.machine.now c.args.loops.now c.args.marks.now.sites.now c.args.marks.now.counted c.args.marks.now.tallied.now c.args.marks.now.share s stop c.in_ok-sources.ensures.sources
+    (subst (λ (ns : List LoopNote). AnswersBy {X = Marked} {Y = Marked} (λ m. m) (Err c.in_err-marked.field-0.0) (IsMarkedFound s.power s.view ns c.args.marks.now.sites.now c.args.marks.now.tallied.now c.args.marks.now.share)) c.in_ok-notes.ensures c.in_err-marked.ensures))
 
 pub returns-in_err-scaling : goal.returns-in_err-scaling
 returns-in_err-scaling c =
@@ -72,8 +72,8 @@ returns-in_err-scaling c =
     let s = c.in_ok-sources.sources in
     let m = c.in_ok-marked.marked in
     let stop = c.in_err-scaling.field-0.0 in
-    rw (p.1, p.2) (scaling_stops c.args.image.now c.args.machine.now c.args.loops.now c.args.sites.now c.args.counted c.args.tallied.now c.args.share s m.graph m.tree stop c.in_ok-sources.ensures.sources
-    (subst (λ (ns : List LoopNote). AnswersBy {X = Scaling} {Y = Scaling} (λ x. x) (Err c.in_err-scaling.field-0.0) (IsScalingFound s.power s.view ns m.graph m.tree (wanted_of m.graph m.tree c.args.sites.now c.args.tallied.now) (paced_rule s.power c.args.share))) c.in_ok-notes.ensures
+    rw (p.1, p.2) (scaling_stops c.args.image.now c.args.machine.now c.args.loops.now c.args.marks.now.sites.now c.args.marks.now.counted c.args.marks.now.tallied.now c.args.marks.now.share s m.graph m.tree stop c.in_ok-sources.ensures.sources
+    (subst (λ (ns : List LoopNote). AnswersBy {X = Scaling} {Y = Scaling} (λ x. x) (Err c.in_err-scaling.field-0.0) (IsScalingFound s.power s.view ns m.graph m.tree (wanted_of m.graph m.tree c.args.marks.now.sites.now c.args.marks.now.tallied.now) (paced_rule s.power c.args.marks.now.share))) c.in_ok-notes.ensures
     (c.in_err-scaling.ensures c.in_ok-notes.notes _ _ c.in_ok-marked.ensures)))
 
 pub returns : goal.returns
@@ -88,7 +88,7 @@ returns c =
       unscaled = are.unscaled;
       notes = s.notes;
       notes_are = are.notes_are;
-      marked = subst (λ (ns : List LoopNote). IsMarkedAs s.power s.view ns c.args.sites.now c.args.tallied.now c.args.share m) c.in_ok-notes.ensures c.in_ok-marked.ensures;
-      scaled = subst (λ (ns : List LoopNote). IsScaled s.power s.view ns m.graph m.tree (wanted_of m.graph m.tree c.args.sites.now c.args.tallied.now) (paced_rule s.power c.args.share) c.in_ok-scaling.scaling) c.in_ok-notes.ensures
+      marked = subst (λ (ns : List LoopNote). IsMarkedAs s.power s.view ns c.args.marks.now.sites.now c.args.marks.now.tallied.now c.args.marks.now.share m) c.in_ok-notes.ensures c.in_ok-marked.ensures;
+      scaled = subst (λ (ns : List LoopNote). IsScaled s.power s.view ns m.graph m.tree (wanted_of m.graph m.tree c.args.marks.now.sites.now c.args.marks.now.tallied.now) (paced_rule s.power c.args.marks.now.share) c.in_ok-scaling.scaling) c.in_ok-notes.ensures
           (c.in_ok-scaling.ensures c.in_ok-notes.notes _ _ c.in_ok-marked.ensures);
     }

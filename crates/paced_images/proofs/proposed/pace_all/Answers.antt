@@ -20,7 +20,7 @@ pub stored_file-requires-clause-scaled : goal.stored_file-requires-clause-scaled
 stored_file-requires-clause-scaled c =
     let p = c.in_ok-program.program in
     let q = c.args.proposal.now in
-    let h = c.in_ok-program.ensures in (p.power, notes_by q.counted c.deref-2.result.now h.notes, _, _, _, _, h.in_range, h.scaled)
+    let h = c.in_ok-program.ensures in (p.power, notes_by c.marks-marks.result.counted c.marks-marks.result.tallied.now h.notes, _, _, _, _, h.in_range, h.scaled)
 
 pub returns-in_err-bytes : goal.returns-in_err-bytes
 returns-in_err-bytes c =
@@ -32,8 +32,8 @@ returns-then-not-are_all c =
     let p = c.in_ok-program.program in
     let q = c.args.proposal.now in
     let kept = c.in_ok-kept.kept in
-    let is = program_is c.args.image.now c.args.machine.now c.args.loops.now q c.deref.result.now c.deref-2.result.now c.deref.ensures.value c.deref-2.ensures.value p c.in_ok-program.ensures in
-    let are = kept_of c.args.image.now c.args.machine.now c.args.loops.now q p is kept.sites.items kept.tallied.items c.deref-3.result.now c.deref-4.result.now c.deref-3.ensures.value c.deref-4.ensures.value c.in_ok-kept.ensures.sites c.in_ok-kept.ensures.tallied in
+    let is = program_is c.args.image.now c.args.machine.now c.args.loops.now q c.marks-marks.result.sites.now c.marks-marks.result.counted c.marks-marks.result.tallied.now c.marks-marks.result.share c.marks-marks.ensures.sites c.marks-marks.ensures.counted c.marks-marks.ensures.tallied c.marks-marks.ensures.share p c.in_ok-program.ensures in
+    let are = kept_of c.args.image.now c.args.machine.now c.args.loops.now q p is kept.sites.items kept.tallied.items c.marks-marks.result.sites.now c.marks-marks.result.tallied.now c.marks-marks.ensures.sites c.marks-marks.ensures.tallied c.in_ok-kept.ensures.sites c.in_ok-kept.ensures.tallied in
     let bytes = rewritten_file p.view (map site_of p.scaling.stubs.items) p.scaling.base p.scaling.summary.start in (
       ((bytes, p.scaling.summary), paced_of c.args.image.now c.args.machine.now c.args.loops.now q p is bytes refl),
       dead_mark c.args.image.now c.args.machine.now c.args.loops.now q kept.sites.items kept.tallied.items are (λ all. let on = c.are_all.ensures.1 all in let off = c.if-not-are_all.true in let bad : ⊥ = cc in bad),
@@ -44,8 +44,8 @@ returns c =
     let p = c.in_ok-program.program in
     let q = c.args.proposal.now in
     let kept = c.in_ok-kept.kept in
-    let is = program_is c.args.image.now c.args.machine.now c.args.loops.now q c.deref.result.now c.deref-2.result.now c.deref.ensures.value c.deref-2.ensures.value p c.in_ok-program.ensures in
-    let are = kept_of c.args.image.now c.args.machine.now c.args.loops.now q p is kept.sites.items kept.tallied.items c.deref-3.result.now c.deref-4.result.now c.deref-3.ensures.value c.deref-4.ensures.value c.in_ok-kept.ensures.sites c.in_ok-kept.ensures.tallied in
+    let is = program_is c.args.image.now c.args.machine.now c.args.loops.now q c.marks-marks.result.sites.now c.marks-marks.result.counted c.marks-marks.result.tallied.now c.marks-marks.result.share c.marks-marks.ensures.sites c.marks-marks.ensures.counted c.marks-marks.ensures.tallied c.marks-marks.ensures.share p c.in_ok-program.ensures in
+    let are = kept_of c.args.image.now c.args.machine.now c.args.loops.now q p is kept.sites.items kept.tallied.items c.marks-marks.result.sites.now c.marks-marks.result.tallied.now c.marks-marks.ensures.sites c.marks-marks.ensures.tallied c.in_ok-kept.ensures.sites c.in_ok-kept.ensures.tallied in
     let all = c.are_all.ensures.0 c.if-not-are_all.false in (
       paced_of c.args.image.now c.args.machine.now c.args.loops.now q p is c.in_ok-bytes.bytes.items c.in_ok-bytes.ensures,
       no_dead_mark c.args.image.now c.args.machine.now c.args.loops.now q kept.sites.items kept.tallied.items are all.0 all.1,

@@ -5,7 +5,7 @@ use Rattle.cost_theory.specs.Worst.{Numbers}
 use Rattle.cycle_laws.specs.Charged.{Charged}
 use Rattle.power_model.specs.Numbers.{PowerModel}
 use Rattle.scale_base.specs.Image.{Image}
-use Rattle.marked_images.specs.declared.scaling.Marked.{Marked}
+use Rattle.marked_images.specs.declared.stubs.Marked.{Marked}
 use Rattle.paced_images.specs.declared.wanted.SwitchSite.{SwitchSite}
 use Rattle.marked_images.specs.Markings.{test_of}
 use Rattle.paced_images.specs.Useful.{is_useful}

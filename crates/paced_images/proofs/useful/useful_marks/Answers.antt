@@ -20,12 +20,12 @@ program_stops image machine loops sites counted tallied share (Refused refusal) 
 program_stops image machine loops sites counted tallied share Memory h = tt
 
 pub kept_marks-requires : goal.kept_marks-requires
-kept_marks-requires c = has_marking c.args.image.now c.args.machine.now c.args.loops.now c.args.sites.now c.args.counted c.args.tallied.now c.args.share c.in_ok-program.program c.in_ok-program.ensures
+kept_marks-requires c = has_marking c.args.image.now c.args.machine.now c.args.loops.now c.args.marks.now.sites.now c.args.marks.now.counted c.args.marks.now.tallied.now c.args.marks.now.share c.in_ok-program.program c.in_ok-program.ensures
 
 pub returns-in_err-program : goal.returns-in_err-program
 returns-in_err-program c =
     let p = err_from_is_err_and c.from_residual.result c.from_residual.ensures.1 in
-    rw (p.1, p.2) (program_stops c.args.image.now c.args.machine.now c.args.loops.now c.args.sites.now c.args.counted c.args.tallied.now c.args.share c.in_err-program.field-0.0 c.in_err-program.ensures)
+    rw (p.1, p.2) (program_stops c.args.image.now c.args.machine.now c.args.loops.now c.args.marks.now.sites.now c.args.marks.now.counted c.args.marks.now.tallied.now c.args.marks.now.share c.in_err-program.field-0.0 c.in_err-program.ensures)
 
 pub returns : goal.returns
 returns c =
@@ -33,6 +33,6 @@ returns c =
     let kept = c.in_ok-kept_marks.field-0 in
     let bytes = rewritten_file p.view (map site_of p.scaling.stubs.items) p.scaling.base p.scaling.summary.start in (
       (bytes, p.scaling.summary),
-      files_given c.args.image.now c.args.machine.now c.args.loops.now c.args.sites.now c.args.counted c.args.tallied.now c.args.share p bytes c.in_ok-program.ensures refl,
-      are_kept c.args.image.now c.args.machine.now c.args.loops.now c.args.sites.now c.args.counted c.args.tallied.now c.args.share p c.in_ok-program.ensures kept.sites.items kept.tallied.items c.in_ok-kept_marks.ensures.sites c.in_ok-kept_marks.ensures.tallied,
+      files_given c.args.image.now c.args.machine.now c.args.loops.now c.args.marks.now.sites.now c.args.marks.now.counted c.args.marks.now.tallied.now c.args.marks.now.share p bytes c.in_ok-program.ensures refl,
+      are_kept c.args.image.now c.args.machine.now c.args.loops.now c.args.marks.now.sites.now c.args.marks.now.counted c.args.marks.now.tallied.now c.args.marks.now.share p c.in_ok-program.ensures kept.sites.items kept.tallied.items c.in_ok-kept_marks.ensures.sites c.in_ok-kept_marks.ensures.tallied,
     )

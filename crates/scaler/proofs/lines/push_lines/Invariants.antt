@@ -9,5 +9,5 @@ use Rattle.scaler.specs.Planned.{line_of}
 use Rattle.scaler.proofs.lines.push_lines.Given as goal
 
 abbrev pub invariant-loop-mark : goal.invariant-loop-mark
-invariant-loop-mark l = Whichever l.power l.graph l.tree l.marking (λ image wanted stored least.
-    l.lines.items ≡ l.initial.lines.items ++ map (line_of (counted_loops l.tree) l.edge) (map (fragment_by l.power (test_of l.power l.marking) (loops l.graph l.tree) (counted_loops l.tree) stored (told_at l.power image l.graph l.tree (marked_where l.graph l.tree wanted) stored least l.e)) (take l.mark-index (marks_at_edge l.marking.sites l.e))))
+invariant-loop-mark l = Whichever l.power l.marked.graph l.marked.tree l.marked.marking (λ image wanted stored least.
+    l.lines.items ≡ l.initial.lines.items ++ map (line_of (counted_loops l.marked.tree) l.edge) (map (fragment_by l.power (test_of l.power l.marked.marking) (loops l.marked.graph l.marked.tree) (counted_loops l.marked.tree) stored (told_at l.power image l.marked.graph l.marked.tree (marked_where l.marked.graph l.marked.tree wanted) stored least l.e)) (take l.mark-index (marks_at_edge l.marked.marking.sites l.e))))

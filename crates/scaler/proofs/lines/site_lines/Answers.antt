@@ -13,12 +13,12 @@ loop-e-init c = λ image wanted stored least is. c.new-lines.ensures.items
 
 pub loop-e-preserved : goal.loop-e-preserved
 loop-e-preserved c = λ image wanted stored least is.
-    let frags = fragments_with c.args.power.now (test_of c.args.power.now c.args.marking.now) image c.args.graph.now c.args.tree.now (marked_where c.args.graph.now c.args.tree.now wanted) stored least in
-    let lt : c.loop-e.e < length c.args.graph.now.code.edges = (let a = c.loop-e-test.true in let b = c.edge_count-e-end.ensures.count in omega (arith, a, b)) in
-    lines_more (counted_loops c.args.tree.now) frags c.args.graph.now.code.edges c.loop-e.e c.loop-e.lines.items c.push_lines.new.lines.items lt (c.loop-e.invariant image wanted stored least is) (c.in_ok-push_lines.ensures image wanted stored least is)
+    let frags = fragments_with c.args.power.now (test_of c.args.power.now c.args.marked.now.marking) image c.args.marked.now.graph c.args.marked.now.tree (marked_where c.args.marked.now.graph c.args.marked.now.tree wanted) stored least in
+    let lt : c.loop-e.e < length c.args.marked.now.graph.code.edges = (let a = c.loop-e-test.true in let b = c.edge_count-e-end.ensures.count in omega (arith, a, b)) in
+    lines_more (counted_loops c.args.marked.now.tree) frags c.args.marked.now.graph.code.edges c.loop-e.e c.loop-e.lines.items c.push_lines.new.lines.items lt (c.loop-e.invariant image wanted stored least is) (c.in_ok-push_lines.ensures image wanted stored least is)
 
 pub returns : goal.returns
 returns c = λ image wanted stored least is.
-    let frags = fragments_with c.args.power.now (test_of c.args.power.now c.args.marking.now) image c.args.graph.now c.args.tree.now (marked_where c.args.graph.now c.args.tree.now wanted) stored least in
-    let long : length c.args.graph.now.code.edges ≤ c.loop-e.e = (let a = c.loop-e-test.false in let b = c.edge_count-e-end.ensures.count in omega (arith, a, b)) in
-    c.loop-e.invariant image wanted stored least is ∙ ap (lines_from (counted_loops c.args.tree.now) frags 0) (take_all c.args.graph.now.code.edges c.loop-e.e long)
+    let frags = fragments_with c.args.power.now (test_of c.args.power.now c.args.marked.now.marking) image c.args.marked.now.graph c.args.marked.now.tree (marked_where c.args.marked.now.graph c.args.marked.now.tree wanted) stored least in
+    let long : length c.args.marked.now.graph.code.edges ≤ c.loop-e.e = (let a = c.loop-e-test.false in let b = c.edge_count-e-end.ensures.count in omega (arith, a, b)) in
+    c.loop-e.invariant image wanted stored least is ∙ ap (lines_from (counted_loops c.args.marked.now.tree) frags 0) (take_all c.args.marked.now.graph.code.edges c.loop-e.e long)

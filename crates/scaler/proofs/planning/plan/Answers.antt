@@ -11,6 +11,7 @@ use Rattle.cost_theory.specs.Worst.{AreNumbers}
 use Rattle.cycle_laws.specs.Charged.{AreCharged}
 use Rattle.flow_graph.specs.FlowGraph.{graph}
 use Rattle.level_tables.specs.Tables as tables
+use Rattle.level_tables.specs.declared.edge_numbers.EdgeNumbers.{EdgeNumbers}
 use Rattle.loop_forest.specs.Tree.{loops as tree_loops}
 use Rattle.scale_sites.specs.Counters.{counted_loops}
 use Rattle.stub_writer.specs.Sites.{site_of}
@@ -64,7 +65,7 @@ has_lines image machine loops p lines h are =
       };
       least_are = subst (λ (marked : ℕ → List Mark). AreCharged (graph v) (tree_loops v t) (stored_weights p.power p.view v marked) m.1) same m.2.least_are;
       lines_are = subst (λ (marked : ℕ → List Mark). lines ≡ lines_from (counted_loops t) (fragments_with p.power (tables.meets_both p.power) p.view v t marked m.0 m.1) 0 v.code.edges) same
-          (subst (λ (test : tables.EdgeNumbers → ℕ → ℕ → Bool). lines ≡ lines_from (counted_loops t) (fragments_with p.power test p.view v t (marked_where v t wanted) m.0 m.1) 0 v.code.edges) (test_of_is p.power p.marked.marking m.2.budgets) given);
+          (subst (λ (test : EdgeNumbers → ℕ → ℕ → Bool). lines ≡ lines_from (counted_loops t) (fragments_with p.power test p.view v t (marked_where v t wanted) m.0 m.1) 0 v.code.edges) (test_of_is p.power p.marked.marking m.2.budgets) given);
     }
 
 pub site_lines-requires-clause-marking : goal.site_lines-requires-clause-marking

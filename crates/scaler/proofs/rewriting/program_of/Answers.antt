@@ -6,7 +6,7 @@ use Rattle.scale_base.specs.Answer.{AnswersBy}
 use Rattle.cost_theory.specs.Worst.{Numbers}
 use Rattle.flow_graph.specs.FlowGraph.{FlowGraph}
 use Rattle.loop_forest.specs.Tree.{LoopView}
-use Rattle.marked_images.specs.declared.scaling.Marked.{Marked}
+use Rattle.marked_images.specs.declared.stubs.Marked.{Marked}
 use Rattle.marked_images.specs.declared.scaling.Program.{Program}
 use Rattle.marked_images.specs.declared.scaling.Scaling.{Scaling}
 use Rattle.marked_images.specs.Scalings.{IsScalingFound}

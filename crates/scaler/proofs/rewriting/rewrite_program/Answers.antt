@@ -6,7 +6,7 @@ use Rattle.scale_base.specs.Answer.{AnswersBy}
 use Rattle.scale_base.specs.Image.{Image}
 use Rattle.power_model.specs.Numbers.{PowerModel}
 use Rattle.loop_file.specs.declared.notes.LoopNote.{LoopNote}
-use Rattle.marked_images.specs.declared.scaling.Marked.{Marked}
+use Rattle.marked_images.specs.declared.stubs.Marked.{Marked}
 use Rattle.scaler.specs.Rewritten.{IsRewrittenProgram}
 use Rattle.scaler.specs.Scalings.{IsMarkedFound}
 use Rattle.marked_images.proofs.Laws.{HoldAnswers}

@@ -5,7 +5,7 @@ use Rattle.loop_file.specs.declared.notes.LoopNote.{LoopNote}
 use Rattle.marked_images.proofs.Laws.{file_is, HoldAnswers, read_again}
 use Rattle.program_sources.proofs.Laws.{no_key, sources_parts}
 use Rattle.scaler.specs.Rewritten.{IsRewrittenProgram}
-use Rattle.scaler.specs.RewrittenAs.{IsRewrittenAs, notes_with, with_gain}
+use Rattle.scaler.specs.RewrittenAs.{IsRewrittenAs, notes_with}
 use Rattle.scaler.proofs.Gains.{model_with}
 use Rattle.scaler.proofs.Given.{rewritten_as_stops, rewritten_as_goes}
 use Rattle.scaler.proofs.SafeAs.{safe_given}

@@ -8,11 +8,11 @@ use Rattle.versioned_images.proofs.Fit.{len_is}
 use Rattle.versioned_images.proofs.Parts.{unfit, no_image, made_of}
 use Rattle.versioned_images.proofs.making.versioned_at.Goals as goal
 
-pub returns-then-not-are_fit-clause-none : goal.returns-then-not-are_fit-clause-none
-returns-then-not-are_fit-clause-none c =
+pub returns-then-not-fits-clause-none : goal.returns-then-not-fits-clause-none
+returns-then-not-fits-clause-none c =
     let image = c.args.view.now in
     let place = subst (λ n. IsStubBase image n c.args.base) c.requires.len c.requires.place in
-    let not : are_fit image c.args.pieces.now c.args.sites.now c.args.base ≡ false = cc in
+    let not : are_fit image c.args.pieces.now c.args.sites.now c.args.base ≡ false = sym c.in_ok-fits.ensures ∙ c.if-not-fits.true in
     unfit image c.args.pieces.now c.args.sites.now c.args.base place not
 
 pub returns-then-not-branch-clause-none : goal.returns-then-not-branch-clause-none
@@ -26,7 +26,7 @@ pub returns-clause-made : goal.returns-clause-made
 returns-clause-made c =
     let image = c.args.view.now in
     let place = subst (λ n. IsStubBase image n c.args.base) c.requires.len c.requires.place in
-    let fit : are_fit image c.args.pieces.now c.args.sites.now c.args.base ≡ true = cc in
+    let fit : are_fit image c.args.pieces.now c.args.sites.now c.args.base ≡ true = sym c.in_ok-fits.ensures ∙ c.if-not-fits.false in
     let again = c.in_ok-is_image.ensures.one c.if-not-branch.false in
     let long = len_is image c.args.pieces.now c.args.sites.now c.args.base fit in
     let len = c.requires.len in

@@ -1,7 +1,7 @@
 use Rattle.std.proofs.Common.{◌≤◌, arith}
 use Rattle.scale_base.specs.declared.stepping.Class.TheVariants.{Alu, Load, Store, Taken, Untaken, Jump, Mul, Div, Ecall, Fence}
 use Rattle.power_model.specs.Price.{cycles_of}
-use Rattle.image_check.proofs.weights.small_costs.Goals as goal
+use Rattle.scale_sites.proofs.cost.small_costs.Goals as goal
 
 pub returns : goal.returns
 returns c = λ class. elim class as (λ k. cycles_of c.args.costs.now k ≤ 65535) [

@@ -1,13 +1,13 @@
 use Rattle.std.proofs.Common.{◌≡◌, ◌-◌, ◌≤◌, length}
 use Rattle.level_tables.specs.Tables.{entry_by, nibbles}
 use Rattle.level_tables.specs.Budgets.{meets_in_budget, budget_at}
-use Rattle.level_tables.proofs.word_within.Given as goal
+use Rattle.level_tables.proofs.edge_numbers.EdgeNumbers.word_within.Given as goal
 
 abbrev pub invariant-loop-i : goal.invariant-loop-i
 invariant-loop-i l = record {
   up_to : l.i ≤ length l.power.levels;
   few : length l.power.levels ≤ 8;
-  word : l.word ≡ nibbles (entry_by (meets_in_budget l.power (budget_at l.budgets)) (record { slack = l.slack; left = l.left; least = l.least })) l.i (length l.power.levels - l.i);
+  word : l.word ≡ nibbles (entry_by (meets_in_budget l.power (budget_at l.budgets)) l.self) l.i (length l.power.levels - l.i);
 }
 
 abbrev pub decreases-loop-i : goal.decreases-loop-i
