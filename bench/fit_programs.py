@@ -10,7 +10,7 @@ nothing counts is told and left out.
 
 Deadlines are 1.5, 2.5 and 3.0 times the worst cycles; levels take 4, 2 and 1 time units and 1, 3 and 8 energy units a cycle, a switch takes 10 and 20. Images are fitted to
 the first and the third input. For each deadline there is the geometric mean of the energies over those of `hold`, and the greatest, on the inputs that were fitted to together and
-on each of the others. A run that breaks the promise is told, as by `fit.py`, and the status is 1. With `--versions`, images are those of `pace all` where no loop is open in the draft,
+on each of the others. Then the same of the builds in whose draft no loop is open. A run that breaks the promise is told, as by `fit.py`, and the status is 1. With `--versions`, images are those of `pace all` where no loop is open in the draft,
 and it is told how many have code twice.
 """
 
@@ -134,10 +134,20 @@ def rows_of(tools, folder, compiler, level):
             faults += len(broken)
             fitted = [ratios[k] for k in FITTED if k in ratios]
             new = [one / other for k, (one, other) in ratios.items() if k not in FITTED]
-            rows[factor] = ([sum(one for one, _ in fitted) / sum(other for _, other in fitted)] if fitted else [], new, is_versioned)
+            of_fitted = [sum(one for one, _ in fitted) / sum(other for _, other in fitted)] if fitted else []
+            rows[factor] = (of_fitted, new, is_versioned, program.is_closed)
             if tools.each:
                 told.append(f"{program.name}, {factor}: fitted {mean(rows[factor][0]):.3f}, new {mean(new):.3f}, at most {max(new, default=1):.3f}")
     return told, faults, rows
+
+
+def table(rows):
+    """Prints the means and the greatest by deadline."""
+    print("| deadline, in worst cycles | fitted: mean | greatest | new: mean | greatest |")
+    print("|---|---|---|---|---|")
+    for factor, found in rows.items():
+        fitted, new = ([ratio for row in found for ratio in row[part]] for part in (0, 1))
+        print("| %.1f | %.3f | %.3f | %.3f | %.3f |" % (factor, mean(fitted), max(fitted, default=1), mean(new), max(new, default=1)))
 
 
 def main():
@@ -160,11 +170,10 @@ def main():
             for factor, row in found.items():
                 rows[factor].append(row)
     print(f"{builds} builds")
-    print("| deadline, in worst cycles | fitted: mean | greatest | new: mean | greatest |")
-    print("|---|---|---|---|---|")
-    for factor, found in rows.items():
-        fitted, new = ([ratio for row in found for ratio in row[part]] for part in (0, 1))
-        print("| %.1f | %.3f | %.3f | %.3f | %.3f |" % (factor, mean(fitted), max(fitted, default=1), mean(new), max(new, default=1)))
+    table(rows)
+    closed = {factor: [row for row in found if row[3]] for factor, found in rows.items()}
+    print(f"{len(closed[DEADLINES[0]])} of them without an open loop")
+    table(closed)
     if tools.versions:
         print("a loop is there twice: " + ", ".join("%d at %.1f" % (sum(row[2] for row in found), factor) for factor, found in rows.items()))
     return 1 if wrong else 0

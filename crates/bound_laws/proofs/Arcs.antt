@@ -1,11 +1,11 @@
 -- Wrapped intervals hold what is computed from numbers in them.
 use Rattle.std.proofs.Common.{◌≡◌, ◌≢◌, ℕ, ◌+◌, ◌-◌, ◌*◌, ◌/◌, ◌<◌, ◌≤◌, ◌%◌, ◌^◌, ⊎_elim, inl, inr, Bool, true, false, sym, ap, ◌∙◌, subst, arith, Option, Some, None}
 use Rattle.std.specs.Prelude.{◌⊎◌, ◌==◌, ◌&&◌, nat_lt, min, bit_and}
-use Rattle.std.proofs.lemmas.Bool.{cases_lt, cond_both, and_parts, ltb-true, eqb-true}
+use Rattle.std.proofs.lemmas.Bool.{cases_lt, cond_both, and_parts, ltb-true, eqb-true, eqb-false}
 use Rattle.std.proofs.Math.Nat.{add-mul, mul-add, mul-sub, mul_assoc, zero-mul, div-add-mod, lt_of_mul-lt-mul_left, mul-le-mul_left, mul-le-mul_right, mul_comm, mul_right_comm}
 use Rattle.std.proofs.lemmas.Nat.{and_le_l, and_le_r}
 use Rattle.scale_base.specs.Arith.{plus, one_if}
-use Rattle.bound_laws.specs.Values.{Arc, IsMultiple, ahead, IsIn, IsHeld, IsPart, IsAll, Covers, arc, strided, is_whole, common_stride, word, exactly, top, sum_of, sum_with, negated, negated_of, times, difference_of, common_of, truth, multiple, scaled, without, Interval, plain, biased, below, above, at_most, at_least, both, without_one}
+use Rattle.bound_laws.specs.Values.{Arc, IsMultiple, ahead, IsIn, IsHeld, IsPart, IsAll, Covers, arc, strided, is_whole, common_stride, word, exactly, top, sum_of, sum_with, negated, negated_of, times, difference_of, common_of, truth, multiple, scaled, multiple_from, part, meet, meet_of, without, Interval, plain, biased, below, above, at_most, at_least, both, without_one}
 
 -- ---- multiples
 
@@ -318,6 +318,72 @@ without_in (Some i) n v x ne =
       step = x.step;
     })
     (λ _. x))
+
+-- a multiple that is at least so much is at least the first of these
+first_multiple : (s p n : ℕ) → IsMultiple s p → n ≤ p → (multiple_from s n ≤ p) × IsMultiple s (multiple_from s n)
+first_multiple s p n m le = cond_both (s == 0) _ _ (λ x. (x ≤ p) × IsMultiple s x)
+    (λ h. let z : p ≡ 0 = none_of p (subst (λ t. IsMultiple t p) (eqb-true s 0 h) m) in (le, (0, (let e : n ≡ s * 0 = omega arith in e))))
+    (λ h.
+    let some : s ≢ 0 = eqb-false s 0 h in
+    let k : ℕ = m.0 in
+    let c : ℕ = (n + (s - 1)) / s in
+    let e : p ≡ s * k = m.1 in
+    let d = div-add-mod (n + (s - 1)) s in
+    let f : s * (k + 1) ≡ s * k + s * 1 = mul-add s k 1 in
+    let lt : s * c < s * (k + 1) = omega arith in
+    let few : c < k + 1 = lt_of_mul-lt-mul_left s lt in
+    let le' : s * c ≤ s * k = mul-le-mul_left s (let q : c ≤ k = omega arith in q) in
+    let down : n + (s - 1) - (n + (s - 1)) % s ≡ s * c = omega arith in
+    (omega arith, (c, down)))
+
+part_in : (i : Arc) (from to v : ℕ) → IsIn i v → from ≤ ahead i.low v → ahead i.low v ≤ to → IsIn (part i from to) v
+part_in i from to v x a b =
+    let d : ℕ = ahead i.low v in
+    let c : ℕ = multiple_from i.stride from in
+    let t = first_multiple i.stride d from x.step a in
+    let e : d - c ≡ ahead (plus i.low c) v = past_low i.low c v x.start x.word t.0 in
+    let near = x.near in
+    cond_both (nat_lt (min i.more to) c) _ _ (λ k. IsIn k v) (λ _. x)
+    (λ _. record {
+      word = x.word;
+      start = plus_small i.low c;
+      near = omega arith;
+      step = multiple_same i.stride (d - c) (ahead (plus i.low c) v) e (multiples_sub i.stride d c x.step t.1);
+    })
+
+-- how far a word is behind another, by way of a third one
+near_way : (a b v : ℕ) → a < 2 ^ 32 → b < 2 ^ 32 → v < 2 ^ 32 → ahead a b + ahead b v < 2 ^ 32 → ahead a v ≡ ahead a b + ahead b v
+near_way a b v x y z h = omega arith
+
+far_way : (a b v : ℕ) → a < 2 ^ 32 → b < 2 ^ 32 → v < 2 ^ 32 → 2 ^ 32 ≤ ahead a b + ahead b v → ahead a v ≡ ahead a b + ahead b v - 2 ^ 32
+far_way a b v x y z h = omega arith
+
+not_near : (a b v : ℕ) → a < 2 ^ 32 → b < 2 ^ 32 → v < 2 ^ 32 → ahead a v < ahead a b → 2 ^ 32 ≤ ahead a b + ahead b v
+not_near a b v x y z h = omega arith
+
+pub meet_in : (i j : Arc) (v : ℕ) → IsIn i v → IsIn j v → IsIn (meet i j) v
+meet_in i j v x y =
+    let d : ℕ = ahead i.low j.low in
+    let n : ℕ = ahead j.low v in
+    let near : n ≤ j.more = y.near in
+    cond_both (nat_lt (d + j.more) (2 ^ 32)) _ _ (λ k. IsIn k v)
+    (λ h.
+    let l : d + j.more < 2 ^ 32 = ltb-true (d + j.more) (2 ^ 32) h in
+    let e : ahead i.low v ≡ d + n = near_way i.low j.low v x.start y.start x.word (omega arith) in
+    part_in i d (d + j.more) v x (omega arith) (omega arith))
+    (λ _. cond_both (nat_lt i.more d) _ _ (λ k. IsIn k v)
+    (λ h.
+    let l : i.more < d = ltb-true i.more d h in
+    let first : ahead i.low v ≤ i.more = x.near in
+    let far : 2 ^ 32 ≤ d + n = not_near i.low j.low v x.start y.start x.word (omega arith) in
+    let e : ahead i.low v ≡ d + n - 2 ^ 32 = far_way i.low j.low v x.start y.start x.word far in
+    part_in i 0 (d + j.more - 2 ^ 32) v x (omega arith) (omega arith))
+    (λ _. cond_both (nat_lt j.more i.more) _ _ (λ k. IsIn k v) (λ _. y) (λ _. x)))
+
+pub meet_of_in : (i j : Option Arc) (v : ℕ) → IsHeld i v → IsHeld j v → IsHeld (meet_of i j) v
+meet_of_in None j v x y = y
+meet_of_in (Some i) None v x y = x
+meet_of_in (Some i) (Some j) v x y = meet_in i j v x y
 
 -- the one number of an interval
 pub only_one : (i : Arc) (v : ℕ) → IsIn i v → i.more ≡ 0 → v ≡ i.low

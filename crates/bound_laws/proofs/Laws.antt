@@ -1,6 +1,7 @@
 -- The laws of loop bounds, for the proofs of crates above.
-pub use Rattle.bound_laws.proofs.Arcs.{below_top, in_covers, in_exactly, in_word, only_one, scaled_in, sum_in, sum_with_in, without_in}
+pub use Rattle.bound_laws.proofs.Arcs.{below_top, in_covers, in_exactly, in_word, meet_of_in, only_one, scaled_in, sum_in, sum_with_in, without_in}
 pub use Rattle.bound_laws.proofs.Before.{kept_before}
+pub use Rattle.bound_laws.proofs.Differences.{compared_in}
 pub use Rattle.bound_laws.proofs.Effects.{step_of, steps_add, steps_leave}
 pub use Rattle.bound_laws.proofs.Inductions.{KeptStep, along}
 pub use Rattle.bound_laws.proofs.Keeping.{all_returns, found_kept, kept_by_returns, kept_too, not_broken, returns_kept}

@@ -10,6 +10,7 @@ pub mod Signed
 pub mod Quotients
 pub mod Transfers
 pub mod Lines
+pub mod Differences
 pub mod Memory
 pub mod LoadedBytes
 pub mod Before

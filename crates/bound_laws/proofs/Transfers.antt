@@ -113,7 +113,7 @@ load_in Lhu bytes at b = let p = half_small (bytes at) (bytes (at + 1)) (b at) (
 
 -- ---- signed numbers
 
-signed_order : (a b : ℕ) → a < 2 ^ 32 → b < 2 ^ 32 → ((int_lt (signed a) (signed b) ≡ true) → biased a < biased b) × ((int_lt (signed a) (signed b) ≡ false) → biased b ≤ biased a)
+pub signed_order : (a b : ℕ) → a < 2 ^ 32 → b < 2 ^ 32 → ((int_lt (signed a) (signed b) ≡ true) → biased a < biased b) × ((int_lt (signed a) (signed b) ≡ false) → biased b ≤ biased a)
 signed_order a b x y = by (nat_lt a (2 ^ 31)) refl (nat_lt b (2 ^ 31)) refl
   where
     both_as : (u w : ℤ) → signed a ≡ u → signed b ≡ w → int_lt (signed a) (signed b) ≡ int_lt u w
@@ -141,10 +141,10 @@ signed_order a b x y = by (nat_lt a (2 ^ 31)) refl (nat_lt b (2 ^ 31)) refl
 
 -- ---- comparisons, in the view of their kind
 
-abbrev seen : BranchOp → ℕ → ℕ
+abbrev pub seen : BranchOp → ℕ → ℕ
 seen op a = cond (is_signed op) (biased a) a
 
-seen_in : (op : BranchOp) (i : Arc) (a : ℕ) → IsIn i a → IsBetween (view op i) (seen op a)
+pub seen_in : (op : BranchOp) (i : Arc) (a : ℕ) → IsIn i a → IsBetween (view op i) (seen op a)
 seen_in op i a x = by (is_signed op) refl
   where
     by : (b : Bool) → is_signed op ≡ b → IsBetween (view op i) (seen op a)
@@ -158,7 +158,7 @@ seen_back op i a w h = by (is_signed op) refl
     by true e = subst (λ k. IsIn k a) (sym (cond-true _ _ _ e)) (of_biased i a w (subst (λ n. IsBetween i n) (cond-true _ _ _ e) h))
     by false e = subst (λ k. IsIn k a) (sym (cond-false _ _ _ e)) (of_plain i a w (subst (λ n. IsBetween i n) (cond-false _ _ _ e) h))
 
-first_between : (op : BranchOp) (i j : Interval) (a b : ℕ) → a < 2 ^ 32 → b < 2 ^ 32 → IsBetween i (seen op a) → IsBetween j (seen op b) → is_taken op a b ≡ true → IsBetween (first_range op i j) (seen op a)
+pub first_between : (op : BranchOp) (i j : Interval) (a b : ℕ) → a < 2 ^ 32 → b < 2 ^ 32 → IsBetween i (seen op a) → IsBetween j (seen op b) → is_taken op a b ≡ true → IsBetween (first_range op i j) (seen op a)
 first_between Beq i j a b v w x y h = both_in i j a x (subst (λ n. IsBetween j n) (sym (eqb-true a b h)) y)
 first_between Bne i j a b v w x y h = without_one_in i j a b x y (eqb-false a b (not-true (a == b) h))
 first_between Blt i j a b v w x y h = below_in i j (biased a) (biased b) x y ((signed_order a b v w).0 h)
@@ -166,7 +166,7 @@ first_between Bge i j a b v w x y h = at_least_in i j (biased a) (biased b) x y 
 first_between Bltu i j a b v w x y h = below_in i j a b x y (ltb-true a b h)
 first_between Bgeu i j a b v w x y h = at_least_in i j a b x y (ltb-false a b (not-true (nat_lt a b) h))
 
-second_between : (op : BranchOp) (i j : Interval) (a b : ℕ) → a < 2 ^ 32 → b < 2 ^ 32 → IsBetween i (seen op a) → IsBetween j (seen op b) → is_taken op a b ≡ true → IsBetween (second_range op i j) (seen op b)
+pub second_between : (op : BranchOp) (i j : Interval) (a b : ℕ) → a < 2 ^ 32 → b < 2 ^ 32 → IsBetween i (seen op a) → IsBetween j (seen op b) → is_taken op a b ≡ true → IsBetween (second_range op i j) (seen op b)
 second_between Beq i j a b v w x y h = both_in j i b y (subst (λ n. IsBetween i n) (eqb-true a b h) x)
 second_between Bne i j a b v w x y h = without_one_in j i b a y x (λ e. eqb-false a b (not-true (a == b) h) (sym e))
 second_between Blt i j a b v w x y h = above_in j i (biased b) (biased a) y x ((signed_order a b v w).0 h)

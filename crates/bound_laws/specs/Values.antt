@@ -1,7 +1,7 @@
 -- Intervals of the registers at each address, and of sums and differences of two, which no step leads out of: an interval analysis (Cousot
 -- and Cousot, Static determination of dynamic properties of programs, 1976) with intervals that may wrap round (Navas, Schachte,
 -- Søndergaard and Stuckey, Signedness-agnostic program analysis, 2012). The code has to confirm them edge by edge.
-use Rattle.std.specs.Prelude.{◌≡◌, ℕ, ◌+◌, ◌-◌, ◌*◌, ◌/◌, ◌%◌, ◌^◌, ◌<◌, ◌≤◌, ◌⊎◌, ◌==◌, ◌&&◌, ◌||◌, not, nat_lt, min, max, Bool, true, false, List, Option, Some, None, is_some, if◌then◌else◌}
+use Rattle.std.specs.Prelude.{◌≡◌, ℕ, ◌+◌, ◌-◌, ◌*◌, ◌/◌, ◌%◌, ◌^◌, ◌<◌, ◌≤◌, ◌⊎◌, ◌==◌, ◌&&◌, ◌||◌, not, nat_lt, min, max, Bool, true, false, List, Option, Some, None, option_map, is_some, if◌then◌else◌}
 use Rattle.scale_base.specs.declared.instruction.BranchOp.{BranchOp}
 use Rattle.scale_base.specs.declared.instruction.BranchOp.TheVariants.{Beq, Bne, Blt, Bge, Bltu, Bgeu}
 use Rattle.scale_base.specs.declared.instruction.LoadOp.{LoadOp}
@@ -304,6 +304,31 @@ without (Some i) n =
     else if plus i.low i.more == n then Some (strided i.low (i.more - (if is_whole i then i.stride else 1)) i.stride)
     else Some i
 
+-- ---- what two intervals have in common
+
+-- the first multiple of a stride that is at least so much
+abbrev pub multiple_from : ℕ → ℕ → ℕ
+multiple_from stride n = if stride == 0 then n else n + (stride - 1) - (n + (stride - 1)) % stride
+
+-- the numbers of an interval that are at least so far behind its first one, and at most so far; all of its numbers, where none is
+abbrev pub part : Arc → ℕ → ℕ → Arc
+part i from to =
+    if nat_lt (min i.more to) (multiple_from i.stride from) then i
+    else strided (plus i.low (multiple_from i.stride from)) (min i.more to - multiple_from i.stride from) i.stride
+
+-- the numbers of an interval that another one has too, where these are one interval; else those of the shorter one
+abbrev pub meet : Arc → Arc → Arc
+meet i j =
+    if nat_lt (ahead i.low j.low + j.more) (2 ^ 32) then part i (ahead i.low j.low) (ahead i.low j.low + j.more)
+    else if nat_lt i.more (ahead i.low j.low) then part i 0 (ahead i.low j.low + j.more - 2 ^ 32)
+    else if nat_lt j.more i.more then j
+    else i
+
+abbrev pub meet_of : Option Arc → Option Arc → Option Arc
+meet_of None j = j
+meet_of (Some i) None = Some i
+meet_of (Some i) (Some j) = Some (meet i j)
+
 -- ---- what a branch says of its registers
 
 -- a comparison of two registers that holds
@@ -413,6 +438,44 @@ kept_by (Some s) at r =
     else if r == s.second then second_by s.op (held at s.first) (held at s.second)
     else at r
 
+-- ---- what a branch says of the difference of its registers
+
+-- the differences of numbers of two intervals, and 2^32 more
+abbrev pub differences : Interval → Interval → Interval
+differences i j = between (i.from + 2 ^ 32 - j.to) (i.to + 2 ^ 32 - j.from)
+
+-- those of numbers that compare so
+abbrev pub ordered : BranchOp → Interval → Interval
+ordered Beq d = between (2 ^ 32) (2 ^ 32)
+ordered Bne d = d
+ordered Blt d = between d.from (min d.to (2 ^ 32 - 1))
+ordered Bge d = between (max d.from (2 ^ 32)) d.to
+ordered Bltu d = between d.from (min d.to (2 ^ 32 - 1))
+ordered Bgeu d = between (max d.from (2 ^ 32)) d.to
+
+-- and as words
+abbrev pub of_differences : Interval → Arc
+of_differences d = arc (d.from % 2 ^ 32) (min (d.to - d.from) (2 ^ 32 - 1))
+
+-- the first word less the second one, where the comparison holds
+abbrev pub difference_by : BranchOp → Option Arc → Option Arc → Option Arc
+difference_by op None j = None
+difference_by op (Some i) None = None
+difference_by op (Some i) (Some j) = Some (of_differences (ordered op (differences (first_range op (view op i) (view op j))
+    (second_range op (view op i) (view op j)))))
+
+-- the measure is the first register less the second one, and its shift
+abbrev pub is_minus : Measure → ℕ → ℕ → Bool
+is_minus m first second = ((m.register == first) && (m.factor == 1)) && ((m.other == second) && (m.other_factor == 2 ^ 32 - 1))
+
+-- what a comparison says of a measure
+abbrev pub compared : Option Said → Measure → (ℕ → Option Arc) → Option Arc
+compared None m at = None
+compared (Some s) m at =
+    if is_minus m s.first s.second then sum_with (difference_by s.op (held at s.first) (held at s.second)) m.shift
+    else if is_minus m s.second s.first then sum_with (option_map negated (difference_by s.op (held at s.first) (held at s.second))) m.shift
+    else None
+
 -- no numbers of these intervals compare so
 abbrev pub IsEmpty : Interval → Type 0
 IsEmpty i = i.to < i.from
@@ -506,7 +569,8 @@ IsLineCovered v i a b j =
     ((e : ℕ) × (effect (v.forms j) i ≡ Some e) ×
     (Covers (v.lines b j) (sum_with (v.lines a j) e) ⊎
     ((e ≡ 0) × (is_difference (said i a b) (v.forms j) (v.at a) ≡ true) × Covers (v.lines b j)
-    (without (v.lines a j) ((v.forms j).shift % 2 ^ 32)))))
+    (without (v.lines a j) ((v.forms j).shift % 2 ^ 32))) ⊎
+    ((e ≡ 0) × Covers (v.lines b j) (meet_of (v.lines a j) (compared (said i a b) (v.forms j) (v.at a))))))
 
 -- a run may come to the address, where the registers are in the intervals, and so are the lines
 pub record AreIn (v : Values) (a : ℕ) (regs : List ℕ) : Type 0 where

@@ -11,7 +11,13 @@ use Rattle.image_check.specs.Checked.{IsChecked}
 
 -- what a check says of an image with these numbers
 abbrev pub checked_as : Summary → Checked
-checked_as summary = record { start = summary.start; worst = summary.worst; time = summary.time; deadline = summary.deadline; stub_cycles = summary.stub_cycles }
+checked_as summary = record {
+  start = summary.start;
+  worst = summary.worst;
+  time = summary.time;
+  deadline = summary.deadline;
+  stub_cycles = summary.stub_cycles;
+}
 
 -- Yes is an answer that a check may give of what is stored, with the numbers that were printed.
 abbrev pub RewrittenFilesAreChecked : Type 0

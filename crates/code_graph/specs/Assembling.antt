@@ -73,7 +73,8 @@ flag_at returning (Some f) = slice_index_or returning f false
 
 -- The edges of the first n nodes, one node after another. Whatever the nodes' words are, as the kinds say, and whatever functions they call,
 -- as the callees say, each node has the edges of its word, by the flag of the function that it calls.
-pub record AreEdgesOf (n : ℕ) (nodes : List ℕ) (kinds : List Flow) (callees : List (Option ℕ)) (returning : List Bool) (edges : List Edge) : Type 0 where
+pub record AreEdgesOf (n : ℕ) (nodes : List ℕ) (kinds : List Flow) (callees : List (Option ℕ)) (returning : List Bool) (edges : List Edge)
+    : Type 0 where
   pub edges_are : (word : ℕ → Flow) → kinds ≡ map word nodes → (callee : Flow → Option ℕ) → callees ≡ map callee kinds →
       edges ≡ flat_map (λ v. edges_of (word v) v (flag_at returning (callee (word v)))) (take n nodes)
 
@@ -137,7 +138,8 @@ LeadsApart edges firsts sources targets e k = (slice_get targets e ≡ Some (Som
     (IsOnlyNext edges firsts (slice_index sources e) e → ⊥)
 
 -- by node whether it begins a block: the entries of functions do, and the nodes to which one of the first n edges leads apart
-pub record AreHeads (n : ℕ) (nodes owners functions : List ℕ) (edges : List Edge) (firsts sources : List ℕ) (targets : List (Option ℕ)) (heads : List Bool) : Type 0 where
+pub record AreHeads (n : ℕ) (nodes owners functions : List ℕ) (edges : List Edge) (firsts sources : List ℕ) (targets : List (Option ℕ))
+    (heads : List Bool) : Type 0 where
   pub size : length heads ≡ length nodes
   pub entry : (k : ℕ) → k < length nodes → IsEntryNode nodes owners functions k → slice_get heads k ≡ Some true
   pub apart : (e k : ℕ) → e < n → LeadsApart edges firsts sources targets e k → slice_get heads k ≡ Some true
@@ -164,7 +166,8 @@ pub record AreStretches (n : ℕ) (nodes starts : List ℕ) (blocks : List Range
   pub each : (b : ℕ) (block : Range) → slice_get blocks b ≡ Some block → block ≡ stretch nodes starts b
 
 -- the stretches between nodes that begin blocks
-pub record AreBlocksBy (nodes owners functions : List ℕ) (edges : List Edge) (firsts sources : List ℕ) (targets : List (Option ℕ)) (blocks : List Range) : Type 0 where
+pub record AreBlocksBy (nodes owners functions : List ℕ) (edges : List Edge) (firsts sources : List ℕ) (targets : List (Option ℕ))
+    (blocks : List Range) : Type 0 where
   pub heads : List Bool
   pub starts : List ℕ
   pub heads_are : AreHeads (length edges) nodes owners functions edges firsts sources targets heads

@@ -11,7 +11,14 @@ use Rattle.code_graph.specs.Steps.{IsWordTableOf}
 
 -- what a TextReach holds
 abbrev pub reach_of : TextReach → Reach
-reach_of r = record { words = r.words; returning = r.returning.items; marks = r.marks.items; functions = r.functions.items; numbers = r.numbers.items; outside = r.outside }
+reach_of r = record {
+  words = r.words;
+  returning = r.returning.items;
+  marks = r.marks.items;
+  functions = r.functions.items;
+  numbers = r.numbers.items;
+  outside = r.outside;
+}
 
 -- it is what is reached in a text, whose words stand in the table
 pub record IsReachIn (t : Text) (r : Reach) : Type 0 where

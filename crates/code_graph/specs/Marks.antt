@@ -84,7 +84,8 @@ heights [] = 0
 heights (m ∷ ms) = height m + heights ms
 
 -- what the pass keeps
-pub record IsMarkPass (steps : List Step) (returns : List Bool) (first : ℕ) (marks : List Mark) (functions : List ℕ) (numbers : List (Option ℕ)) (queue : List ℕ) : Type 0 where
+pub record IsMarkPass (steps : List Step) (returns : List Bool) (first : ℕ) (marks : List Mark) (functions : List ℕ)
+    (numbers : List (Option ℕ)) (queue : List ℕ) : Type 0 where
   pub marks_size : length marks ≡ length steps
   pub numbers_size : length numbers ≡ length steps
   pub due : (v : ℕ) → IsDue steps returns first (mark_at marks v) v
@@ -99,7 +100,8 @@ abbrev pub IsFrom : List ℕ → ℕ → ℕ → Type 0
 IsFrom queue done v = (p : ℕ) × (done ≤ p) × (p < length queue) × (slice_index queue p ≡ v)
 
 -- what is later: more in the queue, higher marks, and each word whose mark has changed among the new ones of the queue
-pub record MarksGrow (marks : List Mark) (numbers : List (Option ℕ)) (queue : List ℕ) (marks_then : List Mark) (numbers_then : List (Option ℕ)) (queue_then : List ℕ) : Type 0 where
+pub record MarksGrow (marks : List Mark) (numbers : List (Option ℕ)) (queue : List ℕ) (marks_then : List Mark)
+    (numbers_then : List (Option ℕ)) (queue_then : List ℕ) : Type 0 where
   pub longer : length queue ≤ length queue_then
   pub front : (p : ℕ) → p < length queue → slice_index queue_then p ≡ slice_index queue p
   pub above : (v : ℕ) → Below (mark_at marks v) (mark_at marks_then v)

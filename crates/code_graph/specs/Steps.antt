@@ -60,7 +60,8 @@ ReachedFrom steps returns None f v = ⊥
 ReachedFrom steps returns (Some first) f v = ReachedAt steps returns first f v
 
 -- the functions in which words are reached from there, and the place of each function in the list of functions
-pub record AreReachMarks (steps : List Step) (returns : List Bool) (entry : Option ℕ) (marks : List Mark) (functions : List ℕ) (numbers : List (Option ℕ)) : Type 0 where
+pub record AreReachMarks (steps : List Step) (returns : List Bool) (entry : Option ℕ) (marks : List Mark) (functions : List ℕ)
+    (numbers : List (Option ℕ)) : Type 0 where
   pub marks_size : length marks ≡ length steps
   pub numbers_size : length numbers ≡ length steps
   pub unreached : (v f : ℕ) → slice_get marks v ≡ Some Unreached → ReachedFrom steps returns entry f v → ⊥

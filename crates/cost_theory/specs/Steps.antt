@@ -39,7 +39,8 @@ after_return g l (u ∷ calls) counts = go_back g l u (next_edge g u) calls coun
 -- the state after a step
 abbrev pub after : Graph → Loops → GraphState → Transition → GraphState
 after g l s (Along e) = record { node = g.target e; calls = s.calls; counts = count_step l (Some (g.source e)) (g.target e) s.counts }
-after g l s (Call e f) = record { node = Some (g.entry f); calls = g.source e ∷ s.calls; counts = count_step l None (Some (g.entry f)) s.counts }
+after g l s (Call e f) =
+    record { node = Some (g.entry f); calls = g.source e ∷ s.calls; counts = count_step l None (Some (g.entry f)) s.counts }
 after g l s (Return e) = after_return g l s.calls s.counts
 after g l s (Exit e) = record { node = None; calls = s.calls; counts = s.counts }
 

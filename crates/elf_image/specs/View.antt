@@ -10,7 +10,8 @@ use Rattle.elf_image.specs.Table.{AreSymbolBytes}
 
 -- The file is accepted, these are its loaded segments, its keyed segment and its text, and these are the bytes of its symbols. Each word
 -- address of the text has its four bytes in the file.
-pub record IsViewOf (file : List ℕ) (segments : List ProgramHeader) (keyed : Option Keyed) (text : List Range) (strings table : List ℕ) : Type 0 where
+pub record IsViewOf (file : List ℕ) (segments : List ProgramHeader) (keyed : Option Keyed) (text : List Range) (strings table : List ℕ)
+    : Type 0 where
   pub accepted : AllHold (image_rules file)
   pub long : 52 ≤ length file
   pub segments_are : segments ≡ loaded_headers file

@@ -11,7 +11,13 @@ use Rattle.flow_graph.specs.Ends.{AreEdgeEnds}
 -- what a graph of these lists is seen as
 abbrev pub flow_of : GraphLists → FlowGraph
 flow_of g = record {
-  code = record { nodes = g.nodes.items; edges = g.edges.items; functions = g.functions.items; owners = g.owners.items; returning = g.returning.items };
+  code = record {
+    nodes = g.nodes.items;
+    edges = g.edges.items;
+    functions = g.functions.items;
+    owners = g.owners.items;
+    returning = g.returning.items;
+  };
   kinds = g.kinds.items;
   classes = g.classes.items;
   order = g.order.items;

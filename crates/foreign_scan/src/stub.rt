@@ -75,26 +75,40 @@ fn branch_again(key: &KeyCode<'_>, at: u64, op: BranchOp, rs1: u8, rs2: u8) -> O
     }
 }
 
+/// The fields of a branch.
+#[derive(Clone, Copy)]
+struct BranchFields {
+    op: BranchOp,
+    rs1: u8,
+    rs2: u8,
+    offset: i32,
+}
+
+/// The fields of a JAL.
+#[derive(Clone, Copy)]
+struct JumpFields {
+    rd: u8,
+    offset: i32,
+}
+
 /// The stub of a branch.
 fn read_fork(
     alloc: Global,
     key: &KeyCode<'_>,
     at: u32,
     stub: u32,
-    op: BranchOp,
-    rs1: u8,
-    rs2: u8,
-    offset: i32,
+    fields: BranchFields,
 ) -> Result<Option<StubFragments>, NoMemory>
-    ensures found { IfOk result (λ found. IfSome found (λ s. IsStub key.now at stub (Instr.Branch op rs1 rs2 offset) (fragments_of s))) }
+    ensures found { IfOk result (λ found. IfSome found (λ s. IsStub key.now at stub
+        (Instr.Branch fields.op fields.rs1 fields.rs2 fields.offset) (fragments_of s))) }
     ensures only { IfOk result (λ found. IfSome found (λ s. (others : EdgeKind → List ForeignFragment) →
-        IsStub key.now at stub (Instr.Branch op rs1 rs2 offset) others → AreSameOn (Instr.Branch op rs1 rs2 offset) others
-        (fragments_of s))) }
+        IsStub key.now at stub (Instr.Branch fields.op fields.rs1 fields.rs2 fields.offset) others →
+        AreSameOn (Instr.Branch fields.op fields.rs1 fields.rs2 fields.offset) others (fragments_of s))) }
     ensures none { IfOk result (λ found. IfNone found ((others : EdgeKind → List ForeignFragment) →
-        IsStub key.now at stub (Instr.Branch op rs1 rs2 offset) others → ⊥)) }
-    ensures shape { IfOk result (λ found. IfSome found (λ s. IsOfInstr (Instr.Branch op rs1 rs2 offset) s)) }
+        IsStub key.now at stub (Instr.Branch fields.op fields.rs1 fields.rs2 fields.offset) others → ⊥)) }
+    ensures shape { IfOk result (λ found. IfSome found (λ s. IsOfInstr (Instr.Branch fields.op fields.rs1 fields.rs2 fields.offset) s)) }
 {
-    let again = match branch_again(key, u64::from(stub), op, rs1, rs2) {
+    let again = match branch_again(key, u64::from(stub), fields.op, fields.rs1, fields.rs2) {
         Some(again) => again,
         None => return Ok(None),
     };
@@ -102,7 +116,12 @@ fn read_fork(
         Some(untaken) => untaken,
         None => return Ok(None),
     };
-    match read_run_out(alloc, key, u64::from(moved(stub, again)), moved(at, offset))? {
+    match read_run_out(
+        alloc,
+        key,
+        u64::from(moved(stub, again)),
+        moved(at, fields.offset),
+    )? {
         Some(taken) => Ok(Some(StubFragments::Branch { untaken, taken })),
         None => Ok(None),
     }
@@ -114,17 +133,17 @@ fn read_jump(
     key: &KeyCode<'_>,
     at: u32,
     stub: u32,
-    rd: u8,
-    offset: i32,
+    fields: JumpFields,
 ) -> Result<Option<StubFragments>, NoMemory>
-    ensures found { IfOk result (λ found. IfSome found (λ s. IsStub key.now at stub (Instr.Jal rd offset) (fragments_of s))) }
+    ensures found { IfOk result (λ found. IfSome found (λ s. IsStub key.now at stub (Instr.Jal fields.rd fields.offset) (fragments_of s))) }
     ensures only { IfOk result (λ found. IfSome found (λ s. (others : EdgeKind → List ForeignFragment) →
-        IsStub key.now at stub (Instr.Jal rd offset) others → AreSameOn (Instr.Jal rd offset) others (fragments_of s))) }
+        IsStub key.now at stub (Instr.Jal fields.rd fields.offset) others → AreSameOn (Instr.Jal fields.rd fields.offset) others
+        (fragments_of s))) }
     ensures none { IfOk result (λ found. IfNone found ((others : EdgeKind → List ForeignFragment) →
-        IsStub key.now at stub (Instr.Jal rd offset) others → ⊥)) }
-    ensures shape { IfOk result (λ found. IfSome found (λ s. IsOfInstr (Instr.Jal rd offset) s)) }
+        IsStub key.now at stub (Instr.Jal fields.rd fields.offset) others → ⊥)) }
+    ensures shape { IfOk result (λ found. IfSome found (λ s. IsOfInstr (Instr.Jal fields.rd fields.offset) s)) }
 {
-    match read_run_out(alloc, key, u64::from(stub), moved(at, offset))? {
+    match read_run_out(alloc, key, u64::from(stub), moved(at, fields.offset))? {
         Some(fragments) => Ok(Some(StubFragments::Jump { fragments })),
         None => Ok(None),
     }
@@ -153,8 +172,16 @@ pub fn read_stub(
             rs1,
             rs2,
             offset,
-        } => read_fork(alloc, key, at, stub, op, rs1, rs2, offset),
-        Instr::Jal { rd, offset } => read_jump(alloc, key, at, stub, rd, offset),
+        } => {
+            let fields = BranchFields {
+                op,
+                rs1,
+                rs2,
+                offset,
+            };
+            read_fork(alloc, key, at, stub, fields)
+        }
+        Instr::Jal { rd, offset } => { read_jump(alloc, key, at, stub, JumpFields { rd, offset }) }
         _ => Ok(None),
     }
 }

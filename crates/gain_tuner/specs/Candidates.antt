@@ -6,7 +6,8 @@ use Rattle.scaler.specs.Held.{IsHeld}
 use Rattle.scaler.specs.RewrittenAs.{IsRewrittenAs}
 
 -- candidate `first` + 2 k, for a k below 16: the image with stubs where the least gain is 4^k cycles of slack, with counters or without
-pub record IsGained (image machine loop_file : List ℕ) (first : ℕ) (counters : Bool) (c : ℕ) (answer : Result (List ℕ × Summary) Refusal) : Type 0 where
+pub record IsGained (image machine loop_file : List ℕ) (first : ℕ) (counters : Bool) (c : ℕ) (answer : Result (List ℕ × Summary) Refusal)
+    : Type 0 where
   pub k : ℕ
   pub few : k < 16
   pub number : c ≡ first + 2 * k

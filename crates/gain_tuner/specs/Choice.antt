@@ -8,12 +8,14 @@ use Rattle.gain_tuner.specs.Candidates.{IsCandidate}
 use Rattle.gain_tuner.specs.Spending.{counting, IsSpent}
 
 -- a candidate of a family that isn't out: it isn't refused, no run on these inputs is out of steps, and this is the sum of their energies
-pub record IsTrialOf (Candidate : ℕ → Result (List ℕ × Summary) Refusal → Type 0) (machine : List ℕ) (inputs : List (List ℕ)) (c : ℕ) (stored : List ℕ) (summary : Summary) (energy : ℕ) : Type 0 where
+pub record IsTrialOf (Candidate : ℕ → Result (List ℕ × Summary) Refusal → Type 0) (machine : List ℕ) (inputs : List (List ℕ)) (c : ℕ)
+    (stored : List ℕ) (summary : Summary) (energy : ℕ) : Type 0 where
   pub answer_is : Candidate c (Ok ((stored, summary)))
   pub spent : IsSpent stored machine inputs energy
 
 -- of the candidates of a family below n that aren't out the one with the least sum, of several the least
-pub record IsCheapestOf (Candidate : ℕ → Result (List ℕ × Summary) Refusal → Type 0) (machine : List ℕ) (inputs : List (List ℕ)) (n c : ℕ) (stored : List ℕ) (summary : Summary) (energy : ℕ) : Type 0 where
+pub record IsCheapestOf (Candidate : ℕ → Result (List ℕ × Summary) Refusal → Type 0) (machine : List ℕ) (inputs : List (List ℕ)) (n c : ℕ)
+    (stored : List ℕ) (summary : Summary) (energy : ℕ) : Type 0 where
   pub below : c < n
   pub trial : IsTrialOf Candidate machine inputs c stored summary energy
   pub least : (d : ℕ) (other : List ℕ) (s : Summary) (e : ℕ) → d < n → IsTrialOf Candidate machine inputs d other s e → energy ≤ e

@@ -24,7 +24,8 @@ IsSpentOr stored machine inputs (Some energy) = IsSpent stored machine inputs en
 IsSpentOr stored machine inputs None = All (λ input. IsSome (spent_on stored machine input)) inputs → ⊥
 
 -- a trial of a candidate of a family, which is safe
-pub record IsSafeTrialOf (Candidate : ℕ → Result (List ℕ × Summary) Refusal → Type 0) (image machine loop_file : List ℕ) (given : List (List ℕ)) (c : ℕ) (t : Trial) : Type 0 where
+pub record IsSafeTrialOf (Candidate : ℕ → Result (List ℕ × Summary) Refusal → Type 0) (image machine loop_file : List ℕ)
+    (given : List (List ℕ)) (c : ℕ) (t : Trial) : Type 0 where
   pub candidate : t.candidate ≡ c
   pub trial : IsTrialOf Candidate machine (counting image machine loop_file given) c t.stored.items t.summary t.energy
   pub safe : IsStoredSafely image machine loop_file t.stored.items t.summary
@@ -37,7 +38,8 @@ IsTrialOrOf Candidate image machine loop_file given c None = (stored : List ℕ)
     IsTrialOf Candidate machine (counting image machine loop_file given) c stored summary energy → ⊥
 
 -- the cheapest of the candidates of a family below n, which is safe
-pub record IsSafeChoiceOf (Candidate : ℕ → Result (List ℕ × Summary) Refusal → Type 0) (image machine loop_file : List ℕ) (given : List (List ℕ)) (n : ℕ) (t : Trial) : Type 0 where
+pub record IsSafeChoiceOf (Candidate : ℕ → Result (List ℕ × Summary) Refusal → Type 0) (image machine loop_file : List ℕ)
+    (given : List (List ℕ)) (n : ℕ) (t : Trial) : Type 0 where
   pub cheapest : IsCheapestOf Candidate machine (counting image machine loop_file given) n t.candidate t.stored.items t.summary t.energy
   pub safe : IsStoredSafely image machine loop_file t.stored.items t.summary
 

@@ -12,6 +12,7 @@ pub record IsTunedSafely (image machine loops stored : List ℕ) (tuned : Tuned)
 
 -- Each choice of a tuning of files that a program loads is safe. As a statement for the contract of a function.
 abbrev pub TunedImagesAreSafe : Type 0
-TunedImagesAreSafe = (image machine loops : List ℕ) (inputs : List (List ℕ)) (stored : List ℕ) (tuned : Tuned) → length image ≤ IMAGE_LIMIT →
+TunedImagesAreSafe = (image machine loops : List ℕ) (inputs : List (List ℕ)) (stored : List ℕ) (tuned : Tuned)
+    → length image ≤ IMAGE_LIMIT →
     length machine ≤ FILE_LIMIT → length loops ≤ FILE_LIMIT →
     IsTuning image machine loops inputs (Ok ((stored, tuned))) → IsTunedSafely image machine loops stored tuned

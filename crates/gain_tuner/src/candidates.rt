@@ -1,12 +1,13 @@
 //! The candidates with stubs.
 
-ghost use Rattle.std.specs.Prelude.{◌≡◌, ◌≤◌, ◌<◌, ◌^◌, length, IfOk};
+ghost use Rattle.std.specs.Prelude.{◌≡◌, ◌≤◌, ◌<◌, ◌^◌, ℕ, List, length, IfOk};
 ghost use Rattle.scale_base.specs.Answer.{AnswersBy};
 ghost use Rattle.marked_images.specs.Promise.{IsStoredSafely};
+ghost use Rattle.scaler.specs.Prepared.{IsPrepared};
 ghost use Rattle.gain_tuner.specs.Candidates.{IsCandidate};
 
 use scale_base::{FILE_LIMIT, IMAGE_LIMIT, Stop, Summary};
-use scaler::rewrite_as;
+use scaler::PreparedProgram;
 use std::alloc::Global;
 
 /// The least gain of the candidates 1 + 2 k and 2 + 2 k, in cycles of slack.
@@ -17,24 +18,25 @@ fn gain_of(k: u32) -> u32
     4_u32.pow(k)
 }
 
-/// The candidate of a number from 1 on. Two candidates have the least gain 4^k, for each k below 16: the first of them counts the loops that
-/// are noted so, the second none.
-pub fn candidate_of(
+/// The candidate of a number from 1 on, of the program of three files; and the program again. Two candidates have the least gain 4^k, for
+/// each k below 16: the first of them counts the loops that are noted so, the second none.
+pub fn candidate_of<'a>(
     alloc: Global,
-    image: &[u8],
-    machine: &[u8],
-    loops: &[u8],
+    program: PreparedProgram<'a>,
     number: u32,
-) -> Result<(Vec<u8>, Summary), Stop>
-    requires image { length image.now ≤ IMAGE_LIMIT }
-    requires machine { length machine.now ≤ FILE_LIMIT }
-    requires loops { length loops.now ≤ FILE_LIMIT }
+) -> (PreparedProgram<'a>, Result<(Vec<u8>, Summary), Stop>)
+    requires prepared { (image : List ℕ) × (machine : List ℕ) × (loops : List ℕ) × (length image ≤ IMAGE_LIMIT) ×
+        IsPrepared image machine loops program }
     requires from { 1 ≤ number }
     requires to { number < 33 }
-    ensures given { AnswersBy (λ given. (given.0.items, given.1)) result (IsCandidate image.now machine.now loops.now number) }
-    ensures safe { IfOk result (λ given. IsStoredSafely image.now machine.now loops.now given.0.items given.1) }
+    ensures same { result.0 ≡ program.entry }
+    ensures given { (image machine loops : List ℕ) → IsPrepared image machine loops program.entry →
+        AnswersBy (λ given. (given.0.items, given.1)) result.1 (IsCandidate image machine loops number) }
+    ensures safe { (image machine loops : List ℕ) → length image ≤ IMAGE_LIMIT → length machine ≤ FILE_LIMIT →
+        length loops ≤ FILE_LIMIT → IsPrepared image machine loops program.entry →
+        IfOk result.1 (λ given. IsStoredSafely image machine loops given.0.items given.1) }
 {
     let min_gain = gain_of((number - 1) / 2);
     let counters = number % 2 == 1;
-    rewrite_as(alloc, image, machine, loops, min_gain, counters)
+    program.rewritten(alloc, min_gain, counters)
 }

@@ -2,6 +2,7 @@
 
 ghost use Rattle.std.specs.Prelude.{◌≡◌, ◌≤◌, ◌<◌, length, map, Ok, IfOk};
 ghost use Rattle.scaler.specs.Held.{IsHeld};
+ghost use Rattle.scaler.specs.Prepared.{IsPrepared};
 ghost use Rattle.marked_images.specs.Promise.{IsStoredSafely};
 ghost use Rattle.gain_tuner.specs.Finding.{IsSafeTrial, IsSafeTrialOf, IsTrialOr, IsTried, IsSafeChoice, Made, cheaper_of};
 ghost use Rattle.gain_tuner.specs.Spending.{counts};
@@ -10,6 +11,7 @@ use crate::candidates::candidate_of;
 use crate::spending::spent_over;
 use run_progress::{Part, Progress};
 use scale_base::{FILE_LIMIT, IMAGE_LIMIT, NoMemory, Stop, Summary};
+use scaler::PreparedProgram;
 use std::alloc::Global;
 
 /// How many candidates there are.
@@ -102,27 +104,31 @@ pub fn trial_from<P: Progress>(
     }
 }
 
-/// The candidate of a number from 1 on, unless it is out.
-fn trial_of<P: Progress>(
+/// The candidate of a number from 1 on, unless it is out; and the program again.
+fn trial_of<'a, P: Progress>(
     alloc: Global,
     files: &Files<'_>,
+    program: PreparedProgram<'a>,
     candidate: u32,
     progress: &mut P,
-) -> Result<Option<Trial>, NoMemory>
+) -> Result<(PreparedProgram<'a>, Option<Trial>), NoMemory>
     requires image { length files.now.image.now ≤ IMAGE_LIMIT }
     requires machine { length files.now.machine.now ≤ FILE_LIMIT }
     requires loops { length files.now.loops.now ≤ FILE_LIMIT }
     requires few { length files.now.inputs.now ≤ 64 }
     requires flags { files.now.flags.now ≡ map (λ input. counts files.now.image.now files.now.machine.now files.now.loops.now input.items)
         files.now.inputs.now }
+    requires prepared { IsPrepared files.now.image.now files.now.machine.now files.now.loops.now program }
     requires from { 1 ≤ candidate }
     requires to { candidate < 33 }
-    ensures { IfOk result (IsTrialOr files.now.image.now files.now.machine.now files.now.loops.now
-        (map (λ input. input.items) files.now.inputs.now) candidate) }
+    ensures same { IfOk result (λ given. given.0 ≡ program.entry) }
+    ensures trial { IfOk result (λ given. IsTrialOr files.now.image.now files.now.machine.now files.now.loops.now
+        (map (λ input. input.items) files.now.inputs.now) candidate given.1) }
 {
     progress.next(Part::Candidate);
-    let made = candidate_of(alloc, files.image, files.machine, files.loops, candidate);
-    trial_from(alloc, files, candidate, made, progress)
+    let (program, made) = candidate_of(alloc, program, candidate);
+    let trial = trial_from(alloc, files, candidate, made, progress)?;
+    Ok((program, trial))
 }
 
 /// Of two candidates the one of less energy, and the first where they take the same.
@@ -145,6 +151,7 @@ pub fn cheaper(best: Trial, other: Option<Trial>) -> Trial
 pub fn cheapest<P: Progress>(
     alloc: Global,
     files: &Files<'_>,
+    program: PreparedProgram<'_>,
     held: Trial,
     progress: &mut P,
 ) -> Result<Trial, NoMemory>
@@ -154,14 +161,18 @@ pub fn cheapest<P: Progress>(
     requires few { length files.now.inputs.now ≤ 64 }
     requires flags { files.now.flags.now ≡ map (λ input. counts files.now.image.now files.now.machine.now files.now.loops.now input.items)
         files.now.inputs.now }
+    requires prepared { IsPrepared files.now.image.now files.now.machine.now files.now.loops.now program }
     requires held { IsSafeTrial files.now.image.now files.now.machine.now files.now.loops.now
         (map (λ input. input.items) files.now.inputs.now) 0 held }
     ensures { IfOk result (IsSafeChoice files.now.image.now files.now.machine.now files.now.loops.now
         (map (λ input. input.items) files.now.inputs.now) 33) }
 {
     let mut best = held;
+    let mut program = program;
     for candidate in 1..CANDIDATES {
-        best = cheaper(best, trial_of(alloc, files, candidate, progress)?);
+        let (next, trial) = trial_of(alloc, files, program, candidate, progress)?;
+        program = next;
+        best = cheaper(best, trial);
     }
     Ok(best)
 }

@@ -1,17 +1,17 @@
 //! The tuning of a program.
 
-ghost use Rattle.std.specs.Prelude.{◌≡◌, ◌≤◌, ◌<◌, ◌-◌, length, map, count_by, Ok, IfOk};
+ghost use Rattle.std.specs.Prelude.{◌≡◌, ◌≤◌, ◌<◌, ◌-◌, length, map, count_by, IfOk};
 ghost use Rattle.std.specs.List.{All};
 ghost use Rattle.scale_base.specs.Answer.{AnswersBy};
-ghost use Rattle.scaler.specs.Held.{IsHeld};
+ghost use Rattle.scaler.specs.Prepared.{IsPrepared};
 ghost use Rattle.marked_images.specs.Promise.{IsStoredSafely};
 ghost use Rattle.gain_tuner.specs.Choice.{IsChoice, IsTuning};
 
 use crate::choosing::{CANDIDATES, Files, GivenFiles, Trial, cheapest, held_trial};
 use crate::spending::counting_of;
 use run_progress::{Part, Progress, Silent};
-use scale_base::{FILE_LIMIT, IMAGE_LIMIT, NoMemory, Stop, Summary, Tuned};
-use scaler::hold;
+use scale_base::{FILE_LIMIT, IMAGE_LIMIT, NoMemory, Stop, Tuned};
+use scaler::PreparedProgram;
 use std::alloc::Global;
 
 /// How many flags are set.
@@ -25,7 +25,15 @@ pub fn count_of(flags: &[bool]) -> usize
 fn choice_of(best: Trial, hold_energy: u128, flags: &[bool]) -> (Vec<u8>, Tuned)
     requires { length flags.now ≤ 64 }
     ensures stored { result.0.items ≡ best.stored.items }
-    ensures tuned { let count = count_by (λ flag. flag) flags.now in result.1 ≡ record { candidate = best.candidate; summary = best.summary; inputs = count; left_out = length flags.now - count; energy = best.energy; hold_energy = hold_energy } }
+    ensures tuned { let count = count_by (λ flag. flag) flags.now in
+        result.1 ≡ record {
+          candidate = best.candidate;
+          summary = best.summary;
+          inputs = count;
+          left_out = length flags.now - count;
+          energy = best.energy;
+          hold_energy = hold_energy;
+        } }
 {
     let count = count_of(flags);
     let tuned = Tuned {
@@ -42,32 +50,33 @@ fn choice_of(best: Trial, hold_energy: u128, flags: &[bool]) -> (Vec<u8>, Tuned)
 /// The choice for a program that can be held at one level.
 fn tune_held<P: Progress>(
     alloc: Global,
-    program: &GivenFiles<'_>,
-    held: (Vec<u8>, Summary),
+    given: &GivenFiles<'_>,
+    program: PreparedProgram<'_>,
     progress: &mut P,
 ) -> Result<(Vec<u8>, Tuned), NoMemory>
-    requires image { length program.now.image.now ≤ IMAGE_LIMIT }
-    requires machine { length program.now.machine.now ≤ FILE_LIMIT }
-    requires loops { length program.now.loops.now ≤ FILE_LIMIT }
-    requires few { length program.now.inputs.now ≤ 64 }
-    requires held { IsHeld program.now.image.now program.now.machine.now program.now.loops.now (Ok ((held.0.items, held.1))) }
-    ensures choice { IfOk result (λ chosen. IsChoice program.now.image.now program.now.machine.now program.now.loops.now
-        (map (λ input. input.items) program.now.inputs.now) chosen.0.items chosen.1) }
-    ensures safe { IfOk result (λ chosen. IsStoredSafely program.now.image.now program.now.machine.now program.now.loops.now chosen.0.items
+    requires image { length given.now.image.now ≤ IMAGE_LIMIT }
+    requires machine { length given.now.machine.now ≤ FILE_LIMIT }
+    requires loops { length given.now.loops.now ≤ FILE_LIMIT }
+    requires few { length given.now.inputs.now ≤ 64 }
+    requires prepared { IsPrepared given.now.image.now given.now.machine.now given.now.loops.now program }
+    ensures choice { IfOk result (λ chosen. IsChoice given.now.image.now given.now.machine.now given.now.loops.now
+        (map (λ input. input.items) given.now.inputs.now) chosen.0.items chosen.1) }
+    ensures safe { IfOk result (λ chosen. IsStoredSafely given.now.image.now given.now.machine.now given.now.loops.now chosen.0.items
         chosen.1.summary) }
 {
-    let flags = counting_of(alloc, program, progress)?;
+    let held = program.held(alloc)?;
+    let flags = counting_of(alloc, given, progress)?;
     let files = Files {
-        image: program.image,
-        machine: program.machine,
-        loops: program.loops,
-        inputs: program.inputs,
+        image: given.image,
+        machine: given.machine,
+        loops: given.loops,
+        inputs: given.inputs,
         flags: &flags,
     };
     progress.begin(Part::Candidate, CANDIDATES as usize);
     let first = held_trial(alloc, &files, held, progress)?;
     let energy = first.energy;
-    let best = cheapest(alloc, &files, first, progress)?;
+    let best = cheapest(alloc, &files, program, first, progress)?;
     Ok(choice_of(best, energy, &flags))
 }
 
@@ -89,8 +98,8 @@ pub fn tune_with_progress<P: Progress>(
     ensures safe { IfOk result (λ given. IsStoredSafely files.now.image.now files.now.machine.now files.now.loops.now given.0.items
         given.1.summary) }
 {
-    let held = hold(alloc, files.image, files.machine, files.loops)?;
-    Ok(tune_held(alloc, files, held, progress)?)
+    let program = PreparedProgram::of(alloc, files.image, files.machine, files.loops)?;
+    Ok(tune_held(alloc, files, program, progress)?)
 }
 
 /// The image of the candidate whose runs take the least energy on the inputs that count, of several the least, and the numbers of that choice; or
@@ -100,8 +109,8 @@ pub fn tune_with_progress<P: Progress>(
 /// below 16, candidate 1 + 2k is what `rewrite_as` stores by the least gain 4^k, and candidate 2 + 2k the same with no loop counted. A candidate is
 /// out where it is refused, or where its run on an input that counts is out of steps. Energies are in the machine file's energy units.
 ///
-/// There is one run at a time in memory, and one candidate beside the best so far. The files have at most the bytes that the program
-/// loads: 4,194,304 of an image, 1,048,576 of each other file and of an input.
+/// There is one run at a time in memory, the graph and the loops of the program, and one candidate beside the best so far. The files have at
+/// most the bytes that the program loads: 4,194,304 of an image, 1,048,576 of each other file and of an input.
 pub fn tune(
     alloc: Global,
     image: &[u8],

@@ -36,7 +36,8 @@ IsLastRank bodies ranks done v None = (j : ℕ) → j < done → HasNode bodies 
 IsLastRank bodies ranks done v (Some l) = (i : ℕ) × (i < done) × ((rank_at ranks i).number ≡ l) × HasNode bodies l v ×
     ((j : ℕ) → j < done → HasNode bodies (rank_at ranks j).number v → j ≤ i)
 
-pub record IsNestingPass (bodies : List (List ℕ)) (headers : List ℕ) (ranks : List Rank) (done : ℕ) (innermost parent : List (Option ℕ)) : Type 0 where
+pub record IsNestingPass (bodies : List (List ℕ)) (headers : List ℕ) (ranks : List Rank) (done : ℕ) (innermost parent : List (Option ℕ))
+    : Type 0 where
   pub loops : length parent ≡ length bodies
   pub last : (v : ℕ) → v < length innermost → IsLastRank bodies ranks done v (found_at innermost v)
   pub next : (j : ℕ) → j < done → IsLastRank bodies ranks j (header_in_list headers (rank_at ranks j).number)

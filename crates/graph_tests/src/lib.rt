@@ -6,6 +6,8 @@ mod bodies;
 #[cfg(test)]
 mod bounds;
 #[cfg(test)]
+mod cells;
+#[cfg(test)]
 mod chains;
 #[cfg(test)]
 mod drafts;

@@ -59,7 +59,8 @@ pub trait Host {
         ensures faults { (state self.new).faults ≡ count_if (is_failed result) (state self.old).faults }
 
         // A steady host fails for a missing name alone.
-        ensures steady { IfErr result (λ error. error ≡ HostError.Failed → IsSome (state self.old).room → IfSome (state self.old).files (λ files. get files name.now ≡ None)) };
+        ensures steady { IfErr result (λ error. error ≡ HostError.Failed → IsSome (state self.old).room
+            → IfSome (state self.old).files (λ files. get files name.now ≡ None)) };
 
     /// Makes a file of these bytes, in the place of one of that name.
     fn store(&mut self, name: &str, bytes: &[u8]) -> Result<(), HostError>

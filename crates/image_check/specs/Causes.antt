@@ -55,7 +55,8 @@ IsBadLevel power foreign g l owner w n least found e edge i =
     (all_with_rows foreign l owner (found edge.at edge.kind)))) (found edge.at edge.kind) i
 
 -- The first of them: at the least address, at one address on the untaken edge before the taken one, and there for the least level, over all rows of the edge.
-pub record IsFirstBadLevel (power : PowerModel) (foreign : Image) (g : Graph) (code : Code) (l : Loops) (owner : Owner) (w : ℕ → ℕ) (n : Numbers) (least : Charged) (found : Found) (at i : ℕ) : Type 0 where
+pub record IsFirstBadLevel (power : PowerModel) (foreign : Image) (g : Graph) (code : Code) (l : Loops) (owner : Owner) (w : ℕ → ℕ)
+    (n : Numbers) (least : Charged) (found : Found) (at i : ℕ) : Type 0 where
   pub number : ℕ
   pub edge : Edge
   pub there : slice_get code.edges number ≡ Some edge

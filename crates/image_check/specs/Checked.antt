@@ -46,13 +46,15 @@ key_level power foreign = starting_level (length power.levels) foreign.keyed_seg
 -- ---- the causes behind the scan
 
 -- The scan finds none of its causes, and each used counter has a loop that it counts. The fragments, these loops, and the numbers under what the edges cost.
-pub record IsCounted (power : PowerModel) (original foreign : Image) (v : FlowGraph) (tree : LoopView) (found : Found) (owner : Owner) (n : Numbers) : Type 0 where
+pub record IsCounted (power : PowerModel) (original foreign : Image) (v : FlowGraph) (tree : LoopView) (found : Found) (owner : Owner)
+    (n : Numbers) : Type 0 where
   pub scanned : IsScanned original foreign v.code (loops v tree) found
   pub owners : AreOwners (graph_by original v) v.code (loops v tree) found owner
   pub numbers : AreNumbers (graph_by original v) (loops v tree) (weights_with power original foreign v tree owner found) n
 
 -- besides, its worst cycles are in range, and the key's level is one of the machine's
-pub record HasLevel (power : PowerModel) (original foreign : Image) (v : FlowGraph) (tree : LoopView) (found : Found) (owner : Owner) (n : Numbers) : Type 0 where
+pub record HasLevel (power : PowerModel) (original foreign : Image) (v : FlowGraph) (tree : LoopView) (found : Found) (owner : Owner)
+    (n : Numbers) : Type 0 where
   pub counted : IsCounted power original foreign v tree found owner n
   pub short : n.worst 0 ≤ CYCLE_LIMIT
   pub level : key_level power foreign < length power.levels
@@ -116,7 +118,8 @@ IsFirstCause power original foreign v tree cause = IsFirstWhy original foreign v
 -- ---- the verdict
 
 -- an image that is safe, and its numbers
-pub record IsPassed (power : PowerModel) (original foreign : Image) (notes : List LoopNote) (v : FlowGraph) (tree : LoopView) (checked : Checked) : Type 0 where
+pub record IsPassed (power : PowerModel) (original foreign : Image) (notes : List LoopNote) (v : FlowGraph) (tree : LoopView)
+    (checked : Checked) : Type 0 where
   pub found : Found
   pub owner : Owner
   pub n : Numbers

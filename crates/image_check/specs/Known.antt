@@ -44,7 +44,8 @@ IsOwnersAnswer g code l found (Err c) = IsFirstBadCounter g code l found c
 -- ---- levels
 
 -- the lists hold the numbers under these weights, all in range
-pub record AreWeighed (v : FlowGraph) (t : LoopView) (w : ℕ → ℕ) (n : Numbers) (least : Charged) (worst : WorstView) (ends : LeastView) : Type 0 where
+pub record AreWeighed (v : FlowGraph) (t : LoopView) (w : ℕ → ℕ) (n : Numbers) (least : Charged) (worst : WorstView) (ends : LeastView)
+    : Type 0 where
   pub slacks_size : length worst.slacks ≡ length v.code.edges
   pub rests_size : length worst.rests ≡ length v.code.edges
   pub iterations_size : length worst.iteration ≡ length t.headers
@@ -58,7 +59,8 @@ pub record AreWeighed (v : FlowGraph) (t : LoopView) (w : ℕ → ℕ) (n : Numb
   pub after_small : (e z : ℕ) → e < length v.code.edges → to_end_after (graph v) (loops v t) least e ≡ Some z → z < 2 ^ 89
 
 -- what is found, the loops of its counters, and the numbers
-pub record AreKnown (original foreign : Image) (v : FlowGraph) (t : LoopView) (s : ScannedSites) (owners : List (Option ℕ)) (worst : WorstView) (ends : LeastView) (found : Found) (w : ℕ → ℕ) (n : Numbers) (least : Charged) : Type 0 where
+pub record AreKnown (original foreign : Image) (v : FlowGraph) (t : LoopView) (s : ScannedSites) (owners : List (Option ℕ))
+    (worst : WorstView) (ends : LeastView) (found : Found) (w : ℕ → ℕ) (n : Numbers) (least : Charged) : Type 0 where
   pub found_is : IsFoundIn original foreign v t found s
   pub owners_are : AreOwners (graph v) v.code (loops v t) found (owner_by owners)
   pub weighed : AreWeighed v t w n least worst ends

@@ -20,7 +20,8 @@ use Rattle.foreign_scan.specs.Scanned.{Found, IsScanned}
 use Rattle.image_check.specs.Safe.{Owner, sites_of, AreOwners, AreOnBy}
 
 -- The numbers are those under the stored weights of the fragments that are found, and those under what the stubs add.
-pub record IsPacedImage (power : PowerModel) (budget : ℕ → ℕ) (original foreign : Image) (code : Code) (l : Loops) (extent : ℕ → ℕ → Bool) (found : Found) (owner : Owner) (n : Numbers) (least : Charged) (more : Numbers) : Type 0 where
+pub record IsPacedImage (power : PowerModel) (budget : ℕ → ℕ) (original foreign : Image) (code : Code) (l : Loops) (extent : ℕ → ℕ → Bool)
+    (found : Found) (owner : Owner) (n : Numbers) (least : Charged) (more : Numbers) : Type 0 where
   pub scanned : IsScanned original foreign code l found
   pub owners : AreOwners (text_graph (text_of original) code) code l found owner
   pub analyzed : IsAnalyzed (text_graph (text_of original) code) l extent (weights_of power (text_of original) code

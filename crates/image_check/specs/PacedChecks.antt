@@ -47,7 +47,8 @@ IsLowerIn power image l owner n told (Reset counter ∷ fs) x = ⊥
 IsLowerIn power image l owner n told (Count counter ∷ fs) x = ⊥
 
 -- of an image: on an edge that leads to a node
-pub record IsLowerOn (power : PowerModel) (image : Image) (g : Graph) (code : Code) (l : Loops) (owner : Owner) (w : ℕ → ℕ) (n : Numbers) (least : Charged) (found : Found) (x : Entry) : Type 0 where
+pub record IsLowerOn (power : PowerModel) (image : Image) (g : Graph) (code : Code) (l : Loops) (owner : Owner) (w : ℕ → ℕ) (n : Numbers)
+    (least : Charged) (found : Found) (x : Entry) : Type 0 where
   pub number : ℕ
   pub low : number < g.edges
   pub edge : Edge
@@ -68,7 +69,8 @@ abbrev pub pays_alone : PowerModel → EdgeNumbers → ℕ → ℕ → Bool
 pays_alone power told i j = pays power told.least i j
 
 -- a paced image but for its budgets: its entries lead to no higher level, and to a lower one only where it pays
-pub record IsPayingImage (power : PowerModel) (original foreign : Image) (code : Code) (l : Loops) (extent : ℕ → ℕ → Bool) (found : Found) (owner : Owner) (n : Numbers) (least : Charged) (more : Numbers) : Type 0 where
+pub record IsPayingImage (power : PowerModel) (original foreign : Image) (code : Code) (l : Loops) (extent : ℕ → ℕ → Bool) (found : Found)
+    (owner : Owner) (n : Numbers) (least : Charged) (more : Numbers) : Type 0 where
   pub scanned : IsScanned original foreign code l found
   pub owners : AreOwners (text_graph (text_of original) code) code l found owner
   pub analyzed : IsAnalyzed (text_graph (text_of original) code) l extent (weights_of power (text_of original) code

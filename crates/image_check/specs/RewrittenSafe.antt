@@ -19,7 +19,8 @@ use Rattle.rewritten_runs.specs.Stubs.{IsWeighed, HasStubs, rewritten_file}
 use Rattle.image_check.specs.Safe.{Owner, IsSafeImage}
 
 -- the image is safe with some fragments and loops of counters, under these numbers, and its key starts it at this level
-pub record IsSafeAt (power : PowerModel) (original foreign : Image) (code : Code) (l : Loops) (extent : ℕ → ℕ → Bool) (n : Numbers) (least : Charged) (more : Numbers) (start : ℕ) : Type 0 where
+pub record IsSafeAt (power : PowerModel) (original foreign : Image) (code : Code) (l : Loops) (extent : ℕ → ℕ → Bool) (n : Numbers)
+    (least : Charged) (more : Numbers) (start : ℕ) : Type 0 where
   pub found : Found
   pub owner : Owner
   pub safe : IsSafeImage power original foreign code l extent found owner n least more

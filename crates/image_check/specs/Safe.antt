@@ -73,7 +73,8 @@ place_by image l owner at found (Some (instr.Jal rd offset)) = Straight (way (mo
 place_by image l owner at found i = Straight (way at [])
 
 abbrev pub foreign_site : (original foreign : Image) → Loops → Owner → Found → ℕ → Site
-foreign_site original foreign l owner found at = record { at = at; place = place_by foreign l owner at (found at) (instr_at (text_of original) at) }
+foreign_site original foreign l owner found at =
+    record { at = at; place = place_by foreign l owner at (found at) (instr_at (text_of original) at) }
 
 abbrev pub is_patched_word : (original foreign : Image) → ℕ → Bool
 is_patched_word original foreign at = is_changed original foreign at
@@ -166,7 +167,8 @@ AreSafeOn power image g l owner w n least found e edge = AreOnBy power (meets_bo
 -- ---- the safe image
 
 -- The numbers are those under the stored weights of the fragments that are found, and those under what the stubs add.
-pub record IsSafeImage (power : PowerModel) (original foreign : Image) (code : Code) (l : Loops) (extent : ℕ → ℕ → Bool) (found : Found) (owner : Owner) (n : Numbers) (least : Charged) (more : Numbers) : Type 0 where
+pub record IsSafeImage (power : PowerModel) (original foreign : Image) (code : Code) (l : Loops) (extent : ℕ → ℕ → Bool) (found : Found)
+    (owner : Owner) (n : Numbers) (least : Charged) (more : Numbers) : Type 0 where
   pub scanned : IsScanned original foreign code l found
   pub owners : AreOwners (text_graph (text_of original) code) code l found owner
   pub analyzed : IsAnalyzed (text_graph (text_of original) code) l extent (weights_of power (text_of original) code

@@ -94,7 +94,13 @@ no_tally = record { counts = 0; clears = 0; fits = true }
 
 -- the tally of a counter behind one more fragment, and behind some of them; `fits` tells whether their edge fits the counter
 abbrev pub taken_one : ℕ → Bool → ForeignFragment → Tally → Tally
-taken_one c fits f u = record { counts = u.counts + counts_it c f; clears = u.clears + clears_it c f; fits = u.fits && (not (is_same_counter (counter_used f) c) || fits) }
+taken_one c fits f u =
+    record {
+      counts = u.counts + counts_it c f;
+      clears = u.clears + clears_it c f;
+      fits = u.fits
+          && (not (is_same_counter (counter_used f) c) || fits);
+    }
 
 abbrev pub taken : ℕ → Bool → List ForeignFragment → Tally → Tally
 taken c fits [] u = u

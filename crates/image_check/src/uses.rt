@@ -325,14 +325,16 @@ fn take_fragment(
     fragment: &ForeignFragment,
 )
     requires found { HasFound scanned.now.graph.now scanned.now.tree.now scanned.now.sites.now }
-    requires named { uses.AreNamed scanned.now.graph.now scanned.now.tree.now scanned.now.sites.now (length scanned.now.graph.now.code.edges) owners.now }
+    requires named { uses.AreNamed scanned.now.graph.now scanned.now.tree.now scanned.now.sites.now
+        (length scanned.now.graph.now.code.edges) owners.now }
     requires edge { e < length scanned.now.graph.now.code.edges }
     requires foreign { IsForeign fragment.now }
     requires size { length tallies.old.items ≡ 511 }
     requires counts { (c : ℕ) → (slice_index_or tallies.old.items c uses.no_tally).counts < 2 ^ 32 }
     requires clears { (c : ℕ) → (slice_index_or tallies.old.items c uses.no_tally).clears < 2 ^ 32 }
     ensures size { length tallies.new.items ≡ 511 }
-    ensures taken { uses.AreTakenOne scanned.now.graph.now scanned.now.tree.now scanned.now.sites.now owners.now e fragment.now tallies.old.items tallies.new.items }
+    ensures taken { uses.AreTakenOne scanned.now.graph.now scanned.now.tree.now scanned.now.sites.now owners.now e fragment.now
+        tallies.old.items tallies.new.items }
 {
     match counter_of(fragment) {
         None => {}
@@ -347,12 +349,14 @@ fn take_fragment(
 /// Takes the fragments of edge `e` into the tallies of their counters.
 fn take_edge(scanned: &Scanned<'_>, owners: &[Option<usize>], tallies: &mut Vec<Tally>, e: usize)
     requires found { HasFound scanned.now.graph.now scanned.now.tree.now scanned.now.sites.now }
-    requires named { uses.AreNamed scanned.now.graph.now scanned.now.tree.now scanned.now.sites.now (length scanned.now.graph.now.code.edges) owners.now }
+    requires named { uses.AreNamed scanned.now.graph.now scanned.now.tree.now scanned.now.sites.now
+        (length scanned.now.graph.now.code.edges) owners.now }
     requires edge { e < length scanned.now.graph.now.code.edges }
     requires few { e < 262144 }
     requires size { length tallies.old.items ≡ 511 }
     requires small { uses.AreSmallTallies e tallies.old.items }
-    ensures taken { uses.AreTallied scanned.now.graph.now scanned.now.tree.now scanned.now.sites.now owners.now e tallies.old.items tallies.new.items }
+    ensures taken { uses.AreTallied scanned.now.graph.now scanned.now.tree.now scanned.now.sites.now owners.now e
+        tallies.old.items tallies.new.items }
     ensures small { uses.AreSmallTallies (e + 1) tallies.new.items }
 {
     let fragments = scanned.sites.fragments(e);

@@ -105,7 +105,7 @@ fn touches_table(file: &[u8], place: usize) -> bool
 }
 
 /// Whether the word at an address lies in the program header table.
-fn is_in_table(view: &ImageView<'_>, at: u32) -> bool
+pub fn is_in_table(view: &ImageView<'_>, at: u32) -> bool
     ensures { result ≡ far.is_in_table view.now.file at }
 {
     match view.file_place(at) {

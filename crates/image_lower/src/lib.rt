@@ -10,6 +10,7 @@ mod lowering;
 mod runs;
 mod trees;
 
+pub use far::is_in_table;
 pub use lowering::lower;
 pub use runs::{
     lowered_answers_agree, lowered_images_are_safe, lowered_runs_follow, trees_find_targets,

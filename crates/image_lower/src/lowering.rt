@@ -107,39 +107,45 @@ fn tree_file(
     Ok(file)
 }
 
+/// The block of the trees of ascending notes: where it begins, and its length in bytes.
+#[derive(Clone, Copy)]
+struct TreeBlock<'a> {
+    sorted: &'a [&'a JumpNote],
+    base: u32,
+    len: u32,
+}
+
 /// What notes give, with their block at a base.
 fn lower_at(
     alloc: Global,
     view: &ImageView<'_>,
     notes: &[JumpNote],
     near: &[Patch],
-    sorted: &[&JumpNote],
-    base: u32,
-    len: u32,
+    trees: &TreeBlock<'_>,
 ) -> Result<(Vec<u8>, Lowered), Stop>
     requires file { length view.now.file ≤ IMAGE_LIMIT }
     requires some { 1 ≤ length notes.now }
     requires few_notes { length notes.now ≤ 1024 }
     requires few { length near.now < 2 ^ 32 }
     requires near { near.now ≡ far.far_patches view.now notes.now }
-    requires notes { All (λ n. IsJumpNote n.now) sorted.now }
-    requires few_sorted { length sorted.now ≤ 1024 }
-    requires sorted { map (λ n. n.now) sorted.now ≡ block.ascending_notes notes.now }
-    requires len { len ≡ block.block_len view.now notes.now }
-    ensures { Answers (λ p. (p.0.items, p.1)) result (lowered.lowered_at view.now base notes.now) }
+    requires notes { All (λ n. IsJumpNote n.now) trees.now.sorted.now }
+    requires few_sorted { length trees.now.sorted.now ≤ 1024 }
+    requires sorted { map (λ n. n.now) trees.now.sorted.now ≡ block.ascending_notes notes.now }
+    requires len { trees.now.len ≡ block.block_len view.now notes.now }
+    ensures { Answers (λ p. (p.0.items, p.1)) result (lowered.lowered_at view.now trees.now.base notes.now) }
 {
-    if let Some(at) = out_of_reach(alloc, view, base, sorted)? {
+    if let Some(at) = out_of_reach(alloc, view, trees.base, trees.sorted)? {
         return Err(Stop::Refused(Refusal::LowerOutOfReach(at)));
     }
     if is_full(view.file()) {
         return Err(Stop::Refused(Refusal::NoRoom(2)));
     }
     let depth = greatest_depth(alloc, notes)?;
-    let file = tree_file(alloc, view, near, sorted, base)?;
+    let file = tree_file(alloc, view, near, trees.sorted, trees.base)?;
     let counts = Lowered {
         pairs: near.len() as u32,
         jumps: notes.len() as u32,
-        block: len,
+        block: trees.len,
         depth,
     };
     finish(alloc, file, counts)
@@ -164,7 +170,12 @@ fn lower_all(
     let code = trees_code(alloc, view, 0, &sorted)?;
     let len = 4 * code.len() as u32;
     let base = stub_base(view, len);
-    lower_at(alloc, view, notes, near, &sorted, base, len)
+    let trees = TreeBlock {
+        sorted: &sorted,
+        base,
+        len,
+    };
+    lower_at(alloc, view, notes, near, &trees)
 }
 
 /// What the notes of an image give: the refusal of a noted jump, or what is lowered.

@@ -156,35 +156,46 @@ fn fork(
     Ok(code)
 }
 
+/// In how many of their lowest bits targets may differ, and by how many the register has been shifted.
+#[derive(Clone, Copy)]
+pub struct BitsLeft {
+    pub bits: u32,
+    pub shifted: u32,
+}
+
 /// The tree of targets that differ in their lowest bits alone.
 #[tactic(auto, unfolding(crate::specs::Trees::tree))]
 pub fn tree(
     alloc: Global,
     rs: u8,
-    bits: u32,
-    shifted: u32,
+    left: BitsLeft,
     at: u64,
     targets: &[u32],
 ) -> Result<Vec<Instr>, NoMemory>
-    requires bits { bits ≤ 32 }
+    requires bits { left.bits ≤ 32 }
     requires at { at + 20 * length targets.now < 2 ^ 40 }
     requires few { length targets.now ≤ 128 }
     requires some { 1 ≤ length targets.now }
-    ensures code { IfOk result (λ code. code.items ≡ trees.tree rs bits shifted at targets.now) }
+    ensures code { IfOk result (λ code. code.items ≡ trees.tree rs left.bits left.shifted at targets.now) }
     ensures short { IfOk result (λ code. length code.items + 2 ≤ 5 * length targets.now) }
 {
+    let BitsLeft { bits, shifted } = left;
     if bits == 0 {
         return leaf(alloc, rs, at, targets[0]);
     }
     let bit = bits - 1;
     if are_alike(bit, targets) {
-        return tree(alloc, rs, bit, shifted, at, targets);
+        return tree(alloc, rs, BitsLeft { bits: bit, shifted }, at, targets);
     }
     let without = lacking(alloc, bit, targets)?;
     let with = having(alloc, bit, targets)?;
-    let first = tree(alloc, rs, bit, 31 - bit, at + 8, &without)?;
+    let within = BitsLeft {
+        bits: bit,
+        shifted: 31 - bit,
+    };
+    let first = tree(alloc, rs, within, at + 8, &without)?;
     let second_at = at + 8 + 4 * first.len() as u64;
-    let second = tree(alloc, rs, bit, 31 - bit, second_at, &with)?;
+    let second = tree(alloc, rs, within, second_at, &with)?;
     fork(
         alloc,
         rs,
@@ -205,7 +216,11 @@ pub fn whole_tree(alloc: Global, rs: u8, at: u64, targets: &[u32]) -> Result<Vec
     ensures short { IfOk result (λ code. length code.items ≤ 638) }
     ensures fields { IfOk result (λ code. list_all trees.fits code.items ≡ true → All FieldsInRange code.items) }
 {
-    let code = tree(alloc, rs, 32, 0, at, targets)?;
+    let all = BitsLeft {
+        bits: 32,
+        shifted: 0,
+    };
+    let code = tree(alloc, rs, all, at, targets)?;
     Ok(code)
 }
 

@@ -69,13 +69,15 @@ totals_of power lines = record {
 
 -- ---- the survey
 
-pub record IsSurvey (power : PowerModel) (original scaled : Image) (notes : List LoopNote) (inputs : List (List ℕ)) (survey : Survey) : Type 0 where
+pub record IsSurvey (power : PowerModel) (original scaled : Image) (notes : List LoopNote) (inputs : List (List ℕ)) (survey : Survey)
+    : Type 0 where
   pub lines : AreLines power original scaled notes inputs survey.lines
   pub loops : length survey.most ≡ length notes
   pub most : (k : ℕ) → k < length notes → IsMost power original notes inputs k (slice_index survey.most k)
   pub totals : survey.totals ≡ totals_of power survey.lines
 
-pub record IsSurveyAnswer (power : PowerModel) (original scaled : Image) (notes : List LoopNote) (inputs : List (List ℕ)) (answer : Result Survey Refusal) : Type 0 where
+pub record IsSurveyAnswer (power : PowerModel) (original scaled : Image) (notes : List LoopNote) (inputs : List (List ℕ))
+    (answer : Result Survey Refusal) : Type 0 where
   pub survey : Survey
   pub is : IsSurvey power original scaled notes inputs survey
   pub answer_is : answer ≡ Ok survey

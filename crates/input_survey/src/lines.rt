@@ -55,7 +55,9 @@ pub fn line_of<P: Progress>(
     ensures line { IfOk result (λ line. IsLine images.now.power.now images.now.original.now images.now.scaled.now counter.old.notes
         input.now (line_view line)) }
     ensures held { IfOk result (λ line. line.held < 2 ^ 100) }
-    ensures counted { let power = images.now.power.now in OnOk result (counter.new ≡ counted_run images.now.original.now (length power.levels) input.now counter.old.notes counter.old.most power.steps) }
+    ensures counted { let power = images.now.power.now in
+        OnOk result (counter.new
+        ≡ counted_run images.now.original.now (length power.levels) input.now counter.old.notes counter.old.most power.steps) }
 {
     let power = images.power;
     let fastest = ImageRun {

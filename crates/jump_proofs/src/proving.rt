@@ -137,23 +137,29 @@ fn proof_with(
     proof_by(alloc, original, &both, notes)
 }
 
+// The jumps that are noted, and by number of a note the table that its targets are in.
+#[derive(Clone, Copy)]
+struct NotedJumps<'a> {
+    notes: &'a JumpNotes,
+    tables: &'a [Table],
+}
+
 // The same of the graph of a lowered image.
 fn proof_in(
     alloc: Global,
     original: &ImageView<'_>,
     lowered: &ImageView<'_>,
     graph: &CodeGraph,
-    notes: &JumpNotes,
-    tables: &[Table],
+    jumps: &NotedJumps<'_>,
 ) -> Result<JumpProof, NoMemory>
     requires image { image_of original.now.file ≡ Ok original.now }
     requires lowered { image_of lowered.now.file ≡ Ok lowered.now }
     requires graph { IsGraphOf (text_of lowered.now) graph.now }
-    ensures { IfOk result (λ proof. IsProofOf original.now lowered.now notes.now proof) }
+    ensures { IfOk result (λ proof. IsProofOf original.now lowered.now jumps.now.notes.now proof) }
 {
     let found = analyse(alloc, lowered, graph)?;
     if !is_sized(graph, &found.values) || !is_stack_sized(graph, &found.stack) {
-        return Ok(nothing(alloc, original, lowered, notes));
+        return Ok(nothing(alloc, original, lowered, jumps.notes));
     }
     let claim = StackClaim {
         view: lowered,
@@ -161,7 +167,7 @@ fn proof_in(
         table: &found.values,
         stack: &found.stack,
     };
-    proof_with(alloc, original, &claim, notes, tables)
+    proof_with(alloc, original, &claim, jumps.notes, jumps.tables)
 }
 
 /// What the code of an image that is lowered by notes shows of these. `tables` has by number of a note the table that its targets are in.
@@ -177,7 +183,13 @@ pub fn prove_jumps(
     ensures { IfOk result (λ proof. IsProofOf original.now lowered.now notes.now proof) }
 {
     match build_graph(alloc, lowered) {
-        Ok(graph) => proof_in(alloc, original, lowered, &graph, notes, tables),
+        Ok(graph) => proof_in(
+            alloc,
+            original,
+            lowered,
+            &graph,
+            &NotedJumps { notes, tables },
+        ),
         Err(Stop::Refused(_)) => Ok(nothing(alloc, original, lowered, notes)),
         Err(Stop::Memory) => Err(NoMemory),
     }

@@ -85,7 +85,8 @@ abbrev pub counted_run : Image → ℕ → List ℕ → List LoopNote → List �
 counted_run image levels input notes most n = counted_from (setting_of image levels input) (start_of image levels) notes most n
 
 -- what a counter of loops keeps: it watches by the relaxed notes, and as long as the run is kept by the notes the counts are within their bounds
-pub record IsCounterOfLoops (notes relaxed : List LoopNote) (headers : List Header) (turning : List ℕ) (depth room : ℕ) (counts most : List ℕ) (kept : Kept) : Type 0 where
+pub record IsCounterOfLoops (notes relaxed : List LoopNote) (headers : List Header) (turning : List ℕ) (depth room : ℕ)
+    (counts most : List ℕ) (kept : Kept) : Type 0 where
   pub relaxed_is : relaxed ≡ map relaxed_note notes
   pub notes_fit : AreLoopNotes notes
   pub monitor : IsMonitor relaxed headers [] depth room counts

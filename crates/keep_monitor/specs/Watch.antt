@@ -48,7 +48,8 @@ watch_loops w x returns (Some k) = record w { kept = BrokeBound (k + 1) (next_co
 abbrev pub watch_returns : Watched → Stepped → Option (List ℕ) → Watched
 watch_returns w x None = record w { kept = BrokeReturn x.pc x.next }
 watch_returns w x (Some returns) =
-    if nat_lt most_returns (length returns) then record w { kept = BrokeDepth x.pc } else watch_loops w x returns (loop_broken w.notes (next_counts w x) x)
+    if nat_lt most_returns (length returns) then record w { kept = BrokeDepth x.pc }
+    else watch_loops w x returns (loop_broken w.notes (next_counts w x) x)
 
 -- a step after what was kept or broken so far: nothing changes after a break
 abbrev pub watch_after : Kept → Watched → Stepped → Watched

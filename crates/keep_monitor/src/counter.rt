@@ -14,7 +14,9 @@ ghost use Rattle.keep_monitor.specs.Counted.{raised_most, judged, counted_first,
 use crate::headers::{Header, headers_at, sorted_headers};
 use crate::monitor::{is_plain, watch_next};
 use crate::slots::header_slots;
-use crate::steps::{broken_loop, broken_return, next_count, source_of, turning_loops};
+use crate::steps::{
+    Arrival, Rules, broken_loop, broken_return, next_count, source_of, turning_loops,
+};
 use loop_file::LoopNotes;
 use scale_base::{Kept, NoMemory, RETURN_LIMIT, Stepped};
 use std::alloc::Global;
@@ -51,7 +53,12 @@ impl Model for LoopCounter {
 
     ghost Value = { Counted };
 
-    ghost view = { λ c. record { notes = c.notes; kept = c.kept; relaxed = record { notes = c.relaxed; returns = reverse c.returns.items; counts = c.counts.items; kept = c.relaxed_kept }; most = c.most.items } };
+    ghost view = { λ c. record {
+      notes = c.notes;
+      kept = c.kept;
+      relaxed = record { notes = c.relaxed; returns = reverse c.returns.items; counts = c.counts.items; kept = c.relaxed_kept };
+      most = c.most.items;
+    } };
 
     ghost invariant = { λ c. (IsCounterOfLoops c.notes c.relaxed c.headers.items c.turning.items (vec_len c.returns) (vec_capacity c.returns) c.counts.items c.most.items c.kept) × (AreSlotsOf c.relaxed (length c.relaxed) c.slots.items) };
 }
@@ -98,45 +105,45 @@ fn raise_loops(
 // Raises the most of the loops of a step's target, if it keeps the rules on calls and returns.
 fn raise(
     notes: &LoopNotes,
-    group: &[Header],
     returns: &[u32],
     counts: &[u32],
-    step: &Stepped,
+    arrival: &Arrival<'_>,
     most: &mut [u32],
 )
     requires notes { AreLoopNotes notes.now }
     requires counts { AreCounts notes.now counts.now }
     requires most { length most.old ≡ length notes.now }
-    requires loops { AreLoopsOf notes.now step.now.next group.now }
+    requires loops { AreLoopsOf notes.now arrival.now.step.now.next arrival.now.group.now }
     requires shallow { length returns.now ≤ most_returns }
     ensures { most.new ≡ raised_most (record { notes = notes.now; returns = reverse returns.now; counts = counts.now; kept = kinds.Kept })
-        most.old step.now (returns_after (reverse returns.now) step.now) }
+        most.old arrival.now.step.now (returns_after (reverse returns.now) arrival.now.step.now) }
 {
+    let step = arrival.step;
     if broken_return(step, returns).is_none() {
-        raise_loops(notes, group, counts, source_of(step, returns), most);
+        raise_loops(notes, arrival.group, counts, source_of(step, returns), most);
     }
 }
 
 // Whether a step of a run that has broken nothing of these notes keeps them.
-fn judge_step(
-    notes: &LoopNotes,
-    group: &[Header],
-    turning: &[usize],
-    returns: &[u32],
-    counts: &[u32],
-    step: &Stepped,
-) -> Kept
-    requires notes { AreLoopNotes notes.now }
-    requires counts { AreCounts notes.now counts.now }
-    requires loops { AreLoopsOf notes.now step.now.next group.now }
-    requires turning { AreTurning notes.now (length notes.now) turning.now }
+fn judge_step(rules: &Rules<'_>, returns: &[u32], counts: &[u32], arrival: &Arrival<'_>) -> Kept
+    requires notes { AreLoopNotes rules.now.notes.now }
+    requires counts { AreCounts rules.now.notes.now counts.now }
+    requires loops { AreLoopsOf rules.now.notes.now arrival.now.step.now.next arrival.now.group.now }
+    requires turning { AreTurning rules.now.notes.now (length rules.now.notes.now) rules.now.turning.now }
     requires shallow { length returns.now ≤ most_returns }
-    ensures { result ≡ (watch_returns (record { notes = notes.now; returns = reverse returns.now; counts = counts.now; kept = kinds.Kept })
-        step.now (returns_after (reverse returns.now) step.now)).kept }
+    ensures { result ≡ (watch_returns (record {
+      notes = rules.now.notes.now;
+      returns = reverse returns.now;
+      counts = counts.now;
+      kept =
+          kinds.Kept;
+    })
+        arrival.now.step.now (returns_after (reverse returns.now) arrival.now.step.now)).kept }
 {
+    let step = arrival.step;
     let of_returns = broken_return(step, returns);
     let source = source_of(step, returns);
-    let of_loops = broken_loop(notes, group, turning, counts, source, step);
+    let of_loops = broken_loop(rules, counts, source, arrival);
     match of_returns.or(of_loops) {
         Some(broken) => broken,
         None => Kept::Kept,
@@ -145,29 +152,27 @@ fn judge_step(
 
 // Whether a run keeps these notes with one step more.
 fn judge(
-    notes: &LoopNotes,
+    rules: &Rules<'_>,
     kept: Kept,
-    group: &[Header],
-    turning: &[usize],
     returns: &[u32],
     counts: &[u32],
-    step: &Stepped,
+    arrival: &Arrival<'_>,
 ) -> Kept
-    requires notes { AreLoopNotes notes.now }
-    requires counts { kept ≡ kinds.Kept → AreCounts notes.now counts.now }
-    requires loops { AreLoopsOf notes.now step.now.next group.now }
-    requires turning { AreTurning notes.now (length notes.now) turning.now }
+    requires notes { AreLoopNotes rules.now.notes.now }
+    requires counts { kept ≡ kinds.Kept → AreCounts rules.now.notes.now counts.now }
+    requires loops { AreLoopsOf rules.now.notes.now arrival.now.step.now.next arrival.now.group.now }
+    requires turning { AreTurning rules.now.notes.now (length rules.now.notes.now) rules.now.turning.now }
     requires shallow { length returns.now ≤ most_returns }
-    ensures { result ≡ judged notes.now kept (record {
-      notes = notes.now;
+    ensures { result ≡ judged rules.now.notes.now kept (record {
+      notes = rules.now.notes.now;
       returns = reverse returns.now;
       counts = counts.now;
       kept =
           kinds.Kept;
-    }) step.now }
+    }) arrival.now.step.now }
 {
     match kept {
-        Kept::Kept => judge_step(notes, group, turning, returns, counts, step),
+        Kept::Kept => judge_step(rules, returns, counts, arrival),
         _ => kept,
     }
 }
@@ -244,27 +249,30 @@ impl LoopCounter {
     {
         if let Kept::Kept = self.relaxed_kept {
             let group = headers_at(&self.headers, step.next);
+            let arrival = Arrival { step, group };
             self.kept = judge(
-                &self.notes,
+                &Rules {
+                    notes: &self.notes,
+                    turning: &self.turning,
+                },
                 self.kept,
-                group,
-                &self.turning,
                 &self.returns,
                 &self.counts,
-                step,
+                &arrival,
             );
             raise(
                 &self.relaxed,
-                group,
                 &self.returns,
                 &self.counts,
-                step,
+                &arrival,
                 &mut self.most,
             );
             self.relaxed_kept = watch_next(
-                &self.relaxed,
+                &Rules {
+                    notes: &self.relaxed,
+                    turning: &[],
+                },
                 &self.headers,
-                &[],
                 &mut self.returns,
                 &mut self.counts,
                 step,

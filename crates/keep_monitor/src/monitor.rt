@@ -14,7 +14,8 @@ ghost use Rattle.keep_monitor.specs.Slots.{slot_of};
 use crate::headers::{Header, headers_at, sorted_headers};
 use crate::slots::{has_header, header_slots};
 use crate::steps::{
-    broken_loop, broken_return, count_step, move_returns, next_count, source_of, turning_loops,
+    Arrival, Rules, broken_loop, broken_return, count_step, move_returns, next_count, source_of,
+    turning_loops,
 };
 use loop_file::LoopNotes;
 use scale_base::{Kept, Move, NoMemory, RETURN_LIMIT, Stepped};
@@ -57,28 +58,39 @@ impl Model for Monitor {
 
 // Watches any step of a run that has broken nothing.
 fn watch_step(
-    notes: &LoopNotes,
+    rules: &Rules<'_>,
     headers: &[Header],
-    turning: &[usize],
     returns: &mut Vec<u32>,
     counts: &mut Vec<u32>,
     step: &Stepped,
 ) -> Kept
-    requires { IsMonitor notes.now headers.now turning.now (vec_len returns.old) (vec_capacity returns.old) counts.old.items }
-    ensures watched { record { notes = notes.now; returns = reverse returns.new.items; counts = counts.new.items; kept = result } ≡
-        watch_returns (record { notes = notes.now; returns = reverse returns.old.items; counts = counts.old.items; kept = kinds.Kept })
+    requires { IsMonitor rules.now.notes.now headers.now rules.now.turning.now (vec_len returns.old) (vec_capacity returns.old)
+        counts.old.items }
+    ensures watched { record {
+      notes = rules.now.notes.now;
+      returns = reverse returns.new.items;
+      counts = counts.new.items;
+      kept = result;
+    } ≡ watch_returns (record {
+      notes = rules.now.notes.now;
+      returns = reverse returns.old.items;
+      counts = counts.old.items;
+      kept =
+          kinds.Kept;
+    })
         step.now (returns_after (reverse returns.old.items) step.now) }
-    ensures fits { IsMonitor notes.now headers.now turning.now (vec_len returns.new) (vec_capacity returns.new) counts.new.items }
+    ensures fits { IsMonitor rules.now.notes.now headers.now rules.now.turning.now (vec_len returns.new) (vec_capacity returns.new)
+        counts.new.items }
 {
     let source = source_of(step, returns);
     let group = headers_at(headers, step.next);
     let of_returns = broken_return(step, returns);
-    let of_loops = broken_loop(notes, group, turning, counts, source, step);
+    let of_loops = broken_loop(rules, counts, source, &Arrival { step, group });
     if let Some(broken) = of_returns.or(of_loops) {
         return broken;
     }
     move_returns(returns, step);
-    count_step(notes, group, counts, source);
+    count_step(rules.notes, group, counts, source);
     Kept::Kept
 }
 
@@ -138,22 +150,33 @@ fn watch_turn(notes: &LoopNotes, number: usize, counts: &mut Vec<u32>, step: &St
 
 /// Watches a step of a run that has broken nothing.
 pub fn watch_next(
-    notes: &LoopNotes,
+    rules: &Rules<'_>,
     headers: &[Header],
-    turning: &[usize],
     returns: &mut Vec<u32>,
     counts: &mut Vec<u32>,
     step: &Stepped,
 ) -> Kept
-    requires { IsMonitor notes.now headers.now turning.now (vec_len returns.old) (vec_capacity returns.old) counts.old.items }
-    ensures watched { record { notes = notes.now; returns = reverse returns.new.items; counts = counts.new.items; kept = result } ≡
-        watch_returns (record { notes = notes.now; returns = reverse returns.old.items; counts = counts.old.items; kept = kinds.Kept })
+    requires { IsMonitor rules.now.notes.now headers.now rules.now.turning.now (vec_len returns.old) (vec_capacity returns.old)
+        counts.old.items }
+    ensures watched { record {
+      notes = rules.now.notes.now;
+      returns = reverse returns.new.items;
+      counts = counts.new.items;
+      kept = result;
+    } ≡ watch_returns (record {
+      notes = rules.now.notes.now;
+      returns = reverse returns.old.items;
+      counts = counts.old.items;
+      kept =
+          kinds.Kept;
+    })
         step.now (returns_after (reverse returns.old.items) step.now) }
-    ensures fits { IsMonitor notes.now headers.now turning.now (vec_len returns.new) (vec_capacity returns.new) counts.new.items }
+    ensures fits { IsMonitor rules.now.notes.now headers.now rules.now.turning.now (vec_len returns.new) (vec_capacity returns.new)
+        counts.new.items }
 {
-    match lone_loop(notes, headers, turning, step) {
-        Some(number) => watch_turn(notes, number, counts, step),
-        None => watch_step(notes, headers, turning, returns, counts, step),
+    match lone_loop(rules.notes, headers, rules.turning, step) {
+        Some(number) => watch_turn(rules.notes, number, counts, step),
+        None => watch_step(rules, headers, returns, counts, step),
     }
 }
 
@@ -222,9 +245,11 @@ impl Monitor {
     {
         if let Kept::Kept = self.kept {
             self.kept = watch_next(
-                &self.notes,
+                &Rules {
+                    notes: &self.notes,
+                    turning: &self.turning,
+                },
                 &self.headers,
-                &self.turning,
                 &mut self.returns,
                 &mut self.counts,
                 step,

@@ -13,6 +13,20 @@ use loop_file::{LoopNote, LoopNotes, in_extent};
 use scale_base::{Kept, Move, NoMemory, RETURN_LIMIT, Stepped};
 use std::alloc::Global;
 
+/// The notes of a program's loops, and the loops that have to turn before they are left, ascending.
+#[derive(Clone, Copy)]
+pub struct Rules<'a> {
+    pub notes: &'a LoopNotes,
+    pub turning: &'a [usize],
+}
+
+/// A step, and the loops to whose header it leads.
+#[derive(Clone, Copy)]
+pub struct Arrival<'a> {
+    pub step: &'a Stepped,
+    pub group: &'a [Header],
+}
+
 fn last_of(returns: &[u32]) -> Option<u32>
     ensures { result ≡ first_of (reverse returns.now) }
 {
@@ -172,24 +186,24 @@ fn count_after(note: &LoopNote, source: Option<u32>, next: u32, count: u32) -> u
     }
 }
 
-/// What a step breaks of the rules on loops, where these are the loops of its target: it takes a count above its bound, or
-/// leaves a loop with a count below its least. Of several loops the least is named.
+/// What a step breaks of the rules on loops: it takes a count above its bound, or leaves a loop with a count below its least. Of
+/// several loops the least is named.
 pub fn broken_loop(
-    notes: &LoopNotes,
-    group: &[Header],
-    turning: &[usize],
+    rules: &Rules<'_>,
     counts: &[u32],
     source: Option<u32>,
-    step: &Stepped,
+    arrival: &Arrival<'_>,
 ) -> Option<Kept>
-    requires notes { AreLoopNotes notes.now }
-    requires counts { AreCounts notes.now counts.now }
-    requires loops { AreLoopsOf notes.now step.now.next group.now }
-    requires turning { AreTurning notes.now (length notes.now) turning.now }
-    ensures { result ≡ broken_loop notes.now counts.now source step.now }
+    requires notes { AreLoopNotes rules.now.notes.now }
+    requires counts { AreCounts rules.now.notes.now counts.now }
+    requires loops { AreLoopsOf rules.now.notes.now arrival.now.step.now.next arrival.now.group.now }
+    requires turning { AreTurning rules.now.notes.now (length rules.now.notes.now) rules.now.turning.now }
+    ensures { result ≡ broken_loop rules.now.notes.now counts.now source arrival.now.step.now }
 {
-    let over = first_over(notes, group, counts, source, step.next);
-    let left = first_left(notes, turning, counts, step);
+    let notes = rules.notes;
+    let step = arrival.step;
+    let over = first_over(notes, arrival.group, counts, source, step.next);
+    let left = first_left(notes, rules.turning, counts, step);
     match lesser(over, left) {
         None => None,
         Some(k) => Some(Kept::BrokeBound {

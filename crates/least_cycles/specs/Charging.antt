@@ -106,7 +106,8 @@ abbrev pub IsInner : FlowGraph → LoopView → ℕ → ℕ → Type 0
 IsInner v t l k = (k ≢ l) × ((loops v t).inside l ((loops v t).header k) ≡ true)
 
 -- what is known where a loop's charge is found: the costs in its function, and the charges of the loops within it
-pub record IsChargeKnown (v : FlowGraph) (t : LoopView) (w : ℕ → ℕ) (n : Charged) (l : ℕ) (costs : List ℕ) (lasts : List Bool) (found : List ℕ) : Type 0 where
+pub record IsChargeKnown (v : FlowGraph) (t : LoopView) (w : ℕ → ℕ) (n : Charged) (l : ℕ) (costs : List ℕ) (lasts : List Bool)
+    (found : List ℕ) : Type 0 where
   pub charging : IsCharging v t w n
   pub priced : ArePricedAt v w n (loop_owner v t l) costs lasts
   pub inner : AreChargedTo v t n (IsInner v t l) found

@@ -58,7 +58,8 @@ pub record AreKinds (v : FlowGraph) (nodes : List ℕ) (lasts steps : List Bool)
       (j : ℕ) × (j < length nodes) × ((graph v).target e ≡ Some (node_address v (number_in_place nodes j)))
 
 -- hops of the edges that are done, in an order of these
-pub record AreHopsOf (v : FlowGraph) (lasts steps : List Bool) (c : ℕ → ℕ) (nodes : List ℕ) (Done : ℕ → Type 0) (edges : List ℕ) (hops : List Hop) : Type 0 where
+pub record AreHopsOf (v : FlowGraph) (lasts steps : List Bool) (c : ℕ → ℕ) (nodes : List ℕ) (Done : ℕ → Type 0) (edges : List ℕ)
+    (hops : List Hop) : Type 0 where
   pub size : length edges ≡ length hops
   pub edge : (i e : ℕ) → slice_get edges i ≡ Some e → e < length v.code.edges
   pub all : (e : ℕ) → e < length v.code.edges → Done e → (i : ℕ) × (slice_get edges i ≡ Some e)

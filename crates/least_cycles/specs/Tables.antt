@@ -86,7 +86,8 @@ pub record IsPrice (v : FlowGraph) (own : ℕ → ℕ) (returns exits : List (Op
   pub within : cost ≤ 2 ^ 49
 
 -- the same for the edges of a set
-pub record ArePriced (v : FlowGraph) (own : ℕ → ℕ) (returns exits : List (Option ℕ)) (Set : ℕ → Type 0) (costs : List ℕ) (lasts : List Bool) : Type 0 where
+pub record ArePriced (v : FlowGraph) (own : ℕ → ℕ) (returns exits : List (Option ℕ)) (Set : ℕ → Type 0) (costs : List ℕ)
+    (lasts : List Bool) : Type 0 where
   pub costs_size : length costs ≡ length v.code.edges
   pub lasts_size : length lasts ≡ length v.code.edges
   pub cost : (e : ℕ) → e < length v.code.edges → Set e → number_in_place costs e ≡ least_cost (graph v) own (least_by v returns exits []) e

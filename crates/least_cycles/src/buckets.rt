@@ -8,6 +8,7 @@ ghost use Rattle.least_cycles.specs.Functions.{IsBucket, ArePlacesIn};
 ghost use Rattle.least_cycles.specs.Tables.{AreOwnerKeys, AreNodeChains, AreBackKeys, AreBackChains};
 
 use crate::order::ranked;
+use crate::plan::Plan;
 use flow_graph::CodeGraph;
 use graph_algorithms::{Chains, find_chains};
 use scale_base::NoMemory;
@@ -59,21 +60,20 @@ fn nodes_of(
 pub fn bucket_of(
     alloc: Global,
     graph: &CodeGraph,
-    chains: &Chains,
-    ranks: &[usize],
+    plan: &Plan,
     f: usize,
     places: &mut Vec<usize>,
 ) -> Result<Vec<usize>, NoMemory>
-    requires chains { AreNodeChains graph.now chains.now }
+    requires chains { AreNodeChains graph.now plan.now.nodes }
     requires function { f < length graph.now.code.functions }
     requires size { length places.old.items ≡ length graph.now.code.nodes }
     ensures bucket { IfOk result (λ bucket. IsBucket graph.now f bucket.items) }
     ensures few { IfOk result (λ bucket. length bucket.items ≤ length graph.now.code.nodes) }
-    ensures order { IfOk result (λ bucket. IsNonDecreasingBy (number_in_place ranks.now) bucket.items) }
+    ensures order { IfOk result (λ bucket. IsNonDecreasingBy (number_in_place plan.now.ranks.items) bucket.items) }
     ensures places { IfOk result (λ bucket. ArePlacesIn bucket.items places.new.items) }
     ensures size { length places.new.items ≡ length places.old.items }
 {
-    let nodes = nodes_of(alloc, graph, chains, f)?;
-    let bucket = ranked(alloc, &nodes, ranks, places)?;
+    let nodes = nodes_of(alloc, graph, &plan.nodes, f)?;
+    let bucket = ranked(alloc, &nodes, &plan.ranks, places)?;
     Ok(bucket)
 }

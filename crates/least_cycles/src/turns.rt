@@ -50,6 +50,8 @@ pub struct PricedFunction<'a> {
     /// By edge, its cost without a charge, and whether it is the last of a walk to an exit.
     pub costs: &'a [u64],
     pub lasts: &'a [bool],
+    /// By node, its place in the plain order, counted from the last.
+    pub ranks: &'a [usize],
 }
 
 /// Whether node `k` is one of some nodes.
@@ -65,24 +67,22 @@ fn is_in(nodes: &[usize], spots: &[usize], k: usize) -> bool
 /// The nodes of the body of loop `l` by their ranks, and the place of each among them.
 fn body_nodes(
     alloc: Global,
-    graph: &CodeGraph,
-    tree: &LoopTree,
-    ranks: &[usize],
+    priced: &PricedFunction<'_>,
     l: usize,
     spots: &mut Vec<usize>,
 ) -> Result<Vec<usize>, NoMemory>
-    requires flow { IsFlowGraph graph.now }
-    requires tree { (extent : ℕ → ℕ → Bool) × IsLoopTree graph.now extent tree.now }
-    requires loop_number { l < length tree.now.headers }
-    requires size { length spots.old.items ≡ length graph.now.code.nodes }
-    ensures nodes { IfOk result (λ nodes. IsBodyOf graph.now tree.now l nodes.items) }
+    requires flow { IsFlowGraph priced.now.graph.now }
+    requires tree { (extent : ℕ → ℕ → Bool) × IsLoopTree priced.now.graph.now extent priced.now.tree.now }
+    requires loop_number { l < length priced.now.tree.now.headers }
+    requires size { length spots.old.items ≡ length priced.now.graph.now.code.nodes }
+    ensures nodes { IfOk result (λ nodes. IsBodyOf priced.now.graph.now priced.now.tree.now l nodes.items) }
     ensures few { IfOk result (λ nodes. length nodes.items ≤ WORD_LIMIT) }
-    ensures order { IfOk result (λ nodes. IsNonDecreasingBy (number_in_place ranks.now) nodes.items) }
+    ensures order { IfOk result (λ nodes. IsNonDecreasingBy (number_in_place priced.now.ranks.now) nodes.items) }
     ensures spots { IfOk result (λ nodes. ArePlacesIn nodes.items spots.new.items) }
     ensures size { length spots.new.items ≡ length spots.old.items }
 {
-    let _count = graph.node_count();
-    let nodes = ranked(alloc, tree.body(l), ranks, spots)?;
+    let _count = priced.graph.node_count();
+    let nodes = ranked(alloc, priced.tree.body(l), priced.ranks, spots)?;
     Ok(nodes)
 }
 
@@ -217,7 +217,6 @@ fn turn_of(
 pub fn charge_of_loop(
     alloc: Global,
     priced: &PricedFunction<'_>,
-    ranks: &[usize],
     l: usize,
     marks: &mut Marks,
     charges: &Charges,
@@ -235,7 +234,7 @@ pub fn charge_of_loop(
     if trips == 0 {
         return Ok(0);
     }
-    let nodes = body_nodes(alloc, priced.graph, priced.tree, ranks, l, &mut marks.spots)?;
+    let nodes = body_nodes(alloc, priced, l, &mut marks.spots)?;
     if !are_shut(priced.graph, &nodes, priced.lasts) {
         return Ok(0);
     }

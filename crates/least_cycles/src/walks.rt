@@ -92,7 +92,7 @@ fn charge_loops(
         let Some(l) = plan.heads[order[i]] else {
             unreachable!()
         };
-        let charge = charge_of_loop(alloc, priced, &plan.ranks, l, marks, charges)?;
+        let charge = charge_of_loop(alloc, priced, l, marks, charges)?;
         charges.found[l] = charge;
         next = plan.headers.before(i);
     }
@@ -118,14 +118,7 @@ fn solve_function(
     let plan = program.plan;
     let f = graph.call_order()[i];
     let _count = graph.node_count();
-    let bucket = bucket_of(
-        alloc,
-        graph,
-        &plan.nodes,
-        &plan.ranks,
-        f,
-        &mut scratch.places,
-    )?;
+    let bucket = bucket_of(alloc, graph, plan, f, &mut scratch.places)?;
     price_function(
         &Tables {
             graph,
@@ -145,6 +138,7 @@ fn solve_function(
             number: f,
             costs: &scratch.costs,
             lasts: &scratch.lasts,
+            ranks: &plan.ranks,
         },
         plan,
         &mut scratch.marks,

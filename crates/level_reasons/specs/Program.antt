@@ -24,7 +24,11 @@ use Rattle.level_reasons.specs.Reasons.{ProgramNumbers, AreEdgeLines, AreLoopLin
 -- by edge its slack, the cycles that are left at most behind it, and the least cycles from there to an end of the run; by loop the greatest cost of one turn
 abbrev pub numbers_of : FlowGraph → LoopView → (ℕ → ℕ) → Numbers → Charged → ProgramNumbers
 numbers_of v t w n least = record {
-  told = λ e. record { slack = slack_at (graph v) (loops v t) w n e; left = rest_at (graph v) (loops v t) n e; least = to_end_after (graph v) (loops v t) least e };
+  told = λ e. record {
+    slack = slack_at (graph v) (loops v t) w n e;
+    left = rest_at (graph v) (loops v t) n e;
+    least = to_end_after (graph v) (loops v t) least e;
+  };
   turn = n.iteration;
 }
 

@@ -31,13 +31,16 @@ loop_words (turns.Never bound gives needed) = codes "never: all " ++ decimal bou
 
 -- the line of an edge
 unfoldable pub edge_line : EdgeLine → List ℕ
-edge_line l = codes "edge " ++ address l.edge.at ++ codes " " ++ kind_name l.edge.kind ++ codes " slack " ++ decimal l.slack ++ codes " " ++ edge_words l.reason ++ 10 ∷ []
+edge_line l = codes "edge " ++ address l.edge.at ++ codes " " ++ kind_name l.edge.kind ++ codes " slack " ++ decimal l.slack ++ codes " "
+    ++ edge_words l.reason ++ 10 ∷ []
 
 -- the line of a loop
 unfoldable pub loop_line : LoopLine → List ℕ
-loop_line l = codes "loop " ++ decimal l.number ++ codes " " ++ address l.header ++ codes " turn " ++ decimal l.turn ++ codes " " ++ loop_words l.reason ++ 10 ∷ []
+loop_line l = codes "loop " ++ decimal l.number ++ codes " " ++ address l.header ++ codes " turn " ++ decimal l.turn ++ codes " "
+    ++ loop_words l.reason ++ 10 ∷ []
 
 -- the starting level and the worst cycles, a line for each edge with slack and one for each loop
 abbrev pub reasons_text : Shown → List ℕ
 reasons_text s =
-    number_line (codes "start level ") s.start ++ number_line (codes "worst cycles ") s.worst ++ flat_map edge_line s.edges.items ++ flat_map loop_line s.loops.items
+    number_line (codes "start level ") s.start ++ number_line (codes "worst cycles ") s.worst ++ flat_map edge_line s.edges.items
+    ++ flat_map loop_line s.loops.items

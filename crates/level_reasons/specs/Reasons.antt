@@ -130,7 +130,8 @@ pub record IsEdgeLine (power : PowerModel) (v : FlowGraph) (n : ProgramNumbers) 
   pub reason : IsEdgeReason power level (n.told e) line.reason
 
 -- the line of a loop, which is numbered from 1 on as in the loop file
-pub record IsLoopLine (power : PowerModel) (v : FlowGraph) (t : LoopView) (n : ProgramNumbers) (level k : ℕ) (line : LoopLine) : Type 0 where
+pub record IsLoopLine (power : PowerModel) (v : FlowGraph) (t : LoopView) (n : ProgramNumbers) (level k : ℕ) (line : LoopLine)
+    : Type 0 where
   pub number : line.number ≡ k + 1
   pub header : line.header ≡ slice_index v.code.nodes (slice_index t.headers k)
   pub turn : line.turn ≡ n.turn k

@@ -10,11 +10,10 @@ use crate::scope::Scope;
 use crate::turning::find_turns;
 use crate::turns::{Turns, turns_of};
 use crate::unturned::{UNTURNED, is_turned, no_turns};
-use elf_image::ImageView;
-use flow_graph::CodeGraph;
 use loop_forest::LoopTree;
 use scale_base::NoMemory;
 use shown_bounds::{StackCertificate, StackCounter};
+use stack_tables::StackClaim;
 use std::alloc::Global;
 use turn_checks::{TurnKind, TurnPlace, TurnTable};
 use value_analysis::Tables;
@@ -196,6 +195,7 @@ fn counter_by(table: &TurnTable) -> StackCounter {
     let (factor, shift) = match table.kind {
         TurnKind::Moves(factor, shift) => (factor, shift),
         TurnKind::Lowers => (u32::MAX, 0),
+        TurnKind::Raises(from) => (1, from.wrapping_neg()),
         TurnKind::Halves(_) => (u32::MAX, 0),
     };
     match table.place {
@@ -220,11 +220,10 @@ fn is_within(counter: &Option<Choice>, number: u32) -> bool {
     }
 }
 
-/// A certificate of loop `k`, of the least bound that is found; none where nothing is found, or a bound that says nothing.
+/// A certificate of loop `k` of a program, of the least bound that is found; none where nothing is found, or a bound that says nothing.
 pub fn find_certificate(
     alloc: Global,
-    view: &ImageView<'_>,
-    graph: &CodeGraph,
+    claim: &StackClaim<'_>,
     tree: &LoopTree,
     tables: &Tables,
     k: usize,
@@ -232,7 +231,7 @@ pub fn find_certificate(
     if k >= tree.loop_count() {
         return Ok(None);
     }
-    let scope = Scope::new(alloc, view, graph, tables, tree.header(k), tree.body(k))?;
+    let scope = Scope::new(alloc, claim, tables, tree.header(k), tree.body(k))?;
     if !scope.begins_at_header() {
         return Ok(None);
     }

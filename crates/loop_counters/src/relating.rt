@@ -1,9 +1,11 @@
 //! What is known, at each node of a loop, of registers and of a word of the stack by the number that stood in a counted place when the header
 //! was last come to.
 
+ghost use Rattle.std.specs.Prelude.{◌<◌};
+
 use crate::scope::{Callee, Scope};
 use crate::stores::{is_missed, is_safe, loaded_word, stored_word};
-use scale_base::{ImmOp, Instr, RegOp};
+use scale_base::{BranchOp, ImmOp, Instr, RegOp};
 use turn_checks::{Relation, TurnPlace};
 use wrapped_intervals::{Arc, keeps};
 
@@ -101,20 +103,94 @@ fn moved_back(low: u32, more: u32, arc: Option<Arc>) -> Relation {
     }
 }
 
+// What is known of an operand.
+#[derive(Clone, Copy)]
+struct Operand {
+    relation: Relation,
+    arc: Option<Arc>,
+}
+
+// A number that is at least so much, where a sum of what is at most so much stays a word.
+fn least_sum(more: u32, top: u32, other: Option<Arc>) -> Relation {
+    let (least, most) = limits(other);
+    if top.checked_add(most).is_some() {
+        Relation::Above(more.saturating_add(least))
+    } else {
+        Relation::Unknown
+    }
+}
+
 // A sum of what has a relation and a value of an interval.
-fn sum(q: Relation, arc: Option<Arc>) -> Relation {
-    match q {
+fn sum(one: Operand, arc: Option<Arc>) -> Relation {
+    match one.relation {
         Relation::Ahead(low, more) => moved_by(low, more, arc),
-        Relation::Below(_, _) if limits(arc).1 == 0 => q,
+        Relation::Below(_, _) if limits(arc).1 == 0 => one.relation,
+        Relation::Above(more) => least_sum(more, limits(one.arc).1, arc),
         _ => Relation::Unknown,
     }
 }
 
+// What is at most so much, less a number that is taken away from what is at least that.
+fn less(few: u32, shift: u32, least: u32, n: u32) -> Relation {
+    if n <= least {
+        Relation::Below(few.saturating_add(n), shift)
+    } else {
+        Relation::Unknown
+    }
+}
+
+// What is at least so much, with a number more, or with one taken away.
+fn raised(more: u32, top: u32, n: u32) -> Relation {
+    if top.checked_add(n).is_some() {
+        return Relation::Above(more.saturating_add(n));
+    }
+    match more.checked_sub(n.wrapping_neg()) {
+        Some(rest) => Relation::Above(rest),
+        None => Relation::Unknown,
+    }
+}
+
 // A sum with a number.
-fn more(q: Relation, n: u32) -> Relation {
-    match q {
+fn more(one: Operand, n: u32) -> Relation {
+    let (least, top) = limits(one.arc);
+    match one.relation {
         Relation::Ahead(low, many) => Relation::Ahead(low.wrapping_add(n), many),
-        Relation::Below(_, _) if n == 0 => q,
+        Relation::Below(_, _) if n == 0 => one.relation,
+        Relation::Below(few, shift) => less(few, shift, least, n.wrapping_neg()),
+        Relation::Above(many) => raised(many, top, n),
+        Relation::Unknown => Relation::Unknown,
+    }
+}
+
+// A difference.
+fn difference(one: Operand, other: Option<Arc>) -> Relation {
+    match one.relation {
+        Relation::Ahead(low, many) => moved_back(low, many, other),
+        Relation::Below(few, shift) if one.arc.is_some() && other.is_some() => {
+            let (least, most) = limits(other);
+            if most <= limits(one.arc).0 {
+                Relation::Below(few.saturating_add(least), shift)
+            } else {
+                Relation::Unknown
+            }
+        }
+        _ => Relation::Unknown,
+    }
+}
+
+// A product with a power of 2.
+fn multiplied(one: Operand, n: u32) -> Relation
+    requires { n < 32 }
+{
+    match one.relation {
+        Relation::Above(many) if one.arc.is_some() => {
+            let (least, top) = limits(one.arc);
+            if u64::from(top) << n > u64::from(u32::MAX) {
+                return Relation::Unknown;
+            }
+            let added = (u64::from(least) << n).saturating_sub(u64::from(least));
+            Relation::Above(many.saturating_add(u32::try_from(added).unwrap_or(0)))
+        }
         _ => Relation::Unknown,
     }
 }
@@ -141,13 +217,21 @@ fn either(p: Relation, q: Relation) -> Relation {
     if is_telling(p) { p } else { q }
 }
 
+// What is known of a register in front of the instruction of node k.
+fn operand_at(scope: &Scope<'_>, known: &Known, k: usize, r: u8) -> Operand {
+    Operand {
+        relation: known.of(r),
+        arc: scope.arc(k, r),
+    }
+}
+
 // What an operation with a number gives.
-fn by_number(scope: &Scope<'_>, known: &Known, k: usize, op: ImmOp, rs1: u8, imm: i32) -> Relation {
-    let q = known.of(rs1);
-    let arc = scope.arc(k, rs1);
+fn by_number(op: ImmOp, one: Operand, imm: i32) -> Relation {
+    let Operand { relation: q, arc } = one;
     let by = imm.cast_unsigned();
     match op {
-        ImmOp::Addi => more(q, by),
+        ImmOp::Addi => more(one, by),
+        ImmOp::Slli => multiplied(one, by % 32),
         ImmOp::Andi => lowered(q, 0, arc.is_some()),
         ImmOp::Srli => halved(q, by % 32, arc.is_some()),
         ImmOp::Srai => halved(q, by % 32, limits(arc).1 < 0x8000_0000),
@@ -156,23 +240,17 @@ fn by_number(scope: &Scope<'_>, known: &Known, k: usize, op: ImmOp, rs1: u8, imm
 }
 
 // And one of two registers.
-fn by_registers(
-    scope: &Scope<'_>,
-    known: &Known,
-    k: usize,
-    op: RegOp,
-    rs1: u8,
-    rs2: u8,
-) -> Relation {
-    let (p, q) = (known.of(rs1), known.of(rs2));
-    let (first, second) = (scope.arc(k, rs1), scope.arc(k, rs2));
+fn by_registers(op: RegOp, one: Operand, other: Operand) -> Relation {
+    let (p, q) = (one.relation, other.relation);
+    let (first, second) = (one.arc, other.arc);
     let words = first.is_some() && second.is_some();
     match op {
-        RegOp::Add => either(sum(p, second), sum(q, first)),
-        RegOp::Sub => match p {
-            Relation::Ahead(low, many) => moved_back(low, many, second),
-            _ => Relation::Unknown,
-        },
+        RegOp::Add => either(sum(one, second), sum(other, first)),
+        RegOp::Sub => difference(one, second),
+        RegOp::And => either(
+            lowered(p, 0, first.is_some()),
+            lowered(q, 0, second.is_some()),
+        ),
         RegOp::Mulhu => either(halved(p, 0, words), halved(q, 0, words)),
         RegOp::Divu => halved(p, 1, first.is_some() && limits(second).0 > 1),
         RegOp::Remu => lowered(q, 1, second.is_some() && limits(second).0 > 0),
@@ -183,8 +261,12 @@ fn by_registers(
 // What an instruction leaves in the register that it writes.
 fn written(scope: &Scope<'_>, known: &Known, k: usize, instr: Instr) -> Relation {
     match instr {
-        Instr::Imm { op, rs1, imm, .. } => by_number(scope, known, k, op, rs1, imm),
-        Instr::Reg { op, rs1, rs2, .. } => by_registers(scope, known, k, op, rs1, rs2),
+        Instr::Imm { op, rs1, imm, .. } => by_number(op, operand_at(scope, known, k, rs1), imm),
+        Instr::Reg { op, rs1, rs2, .. } => by_registers(
+            op,
+            operand_at(scope, known, k, rs1),
+            operand_at(scope, known, k, rs2),
+        ),
         _ => Relation::Unknown,
     }
 }
@@ -288,6 +370,7 @@ pub fn joined(p: Relation, q: Relation) -> Relation {
         (Relation::Below(less, shift), Relation::Below(other, further)) => {
             Relation::Below(less.min(other), shift.min(further))
         }
+        (Relation::Above(more), Relation::Above(other)) => Relation::Above(more.min(other)),
         _ => Relation::Unknown,
     }
 }
@@ -323,6 +406,7 @@ fn is_same(p: Relation, q: Relation) -> bool {
         (Relation::Below(less, shift), Relation::Below(other, further)) => {
             less == other && shift == further
         }
+        (Relation::Above(more), Relation::Above(other)) => more == other,
         _ => false,
     }
 }
@@ -353,4 +437,55 @@ impl Known {
         self.used = used;
         changed
     }
+}
+
+// What is so of the first register of a comparison by the relation of the second one, and of the second one by that of the first.
+fn related_by(op: BranchOp, first: Relation, second: Relation) -> (Relation, Relation) {
+    match op {
+        BranchOp::Beq => (second, first),
+        BranchOp::Bne => (Relation::Unknown, Relation::Unknown),
+        BranchOp::Blt | BranchOp::Bltu => (lesser(second, 1), greater(first, 1)),
+        BranchOp::Bge | BranchOp::Bgeu => (greater(second, 0), lesser(first, 0)),
+    }
+}
+
+fn greater(q: Relation, n: u32) -> Relation {
+    match q {
+        Relation::Above(more) => Relation::Above(more.saturating_add(n)),
+        _ => Relation::Unknown,
+    }
+}
+
+fn lesser(q: Relation, n: u32) -> Relation {
+    match q {
+        Relation::Below(less, shift) => Relation::Below(less.saturating_add(n), shift),
+        _ => Relation::Unknown,
+    }
+}
+
+// Whether numbers compare as words.
+fn are_ordered(op: BranchOp, first: Option<Arc>, second: Option<Arc>) -> bool {
+    if first.is_none() || second.is_none() {
+        return false;
+    }
+    match op {
+        BranchOp::Blt => limits(first).1 < 0x8000_0000,
+        BranchOp::Bge => limits(second).1 < 0x8000_0000,
+        _ => true,
+    }
+}
+
+/// What is known on the way from a node to another, by what is known behind the node's instruction, and by what a branch says there.
+pub fn on_way(scope: &Scope<'_>, then: &Known, k: usize, to: usize) -> Known {
+    let mut known = *then;
+    if let Some(said) = scope.said(k, to) {
+        let (i, j) = (scope.arc(k, said.first), scope.arc(k, said.second));
+        if are_ordered(said.op, i, j) {
+            let (p, q) = (then.of(said.first), then.of(said.second));
+            let (first, second) = related_by(said.op, p, q);
+            known.set(said.first, either(p, first));
+            known.set(said.second, either(q, second));
+        }
+    }
+    known
 }

@@ -7,11 +7,11 @@ use code_text::instr_at;
 use elf_image::ImageView;
 use flow_graph::CodeGraph;
 use scale_base::{Instr, NoMemory};
-use stack_tables::{Name, Word};
+use stack_tables::{Name, StackClaim, Word};
 use std::alloc::Global;
 use value_analysis::Tables;
 use value_checks::{Line, are_arcs_kept};
-use wrapped_intervals::{Arc, Measure, exactly, passed};
+use wrapped_intervals::{Arc, Measure, Said, exactly, is_impossible, passed, said_by};
 
 /// A loop that is looked at: its header, its nodes, and by node whether it is one of them.
 #[derive(Drop)]
@@ -41,24 +41,23 @@ fn instr_or_end(view: &ImageView<'_>, at: u32) -> Instr {
 }
 
 impl<'a> Scope<'a> {
-    /// The loop with this header and these nodes.
+    /// The loop of a program with this header and these nodes.
     pub fn new(
         alloc: Global,
-        view: &'a ImageView<'a>,
-        graph: &'a CodeGraph,
+        claim: &StackClaim<'a>,
         tables: &'a Tables,
         header: usize,
         nodes: &'a [usize],
     ) -> Result<Scope<'a>, NoMemory> {
-        let mut body = vec![in alloc; false; graph.node_count()]?;
+        let mut body = vec![in alloc; false; claim.graph.node_count()]?;
         for k in nodes {
             if *k < body.len() {
                 body[*k] = true;
             }
         }
         Ok(Scope {
-            view,
-            graph,
+            view: claim.view,
+            graph: claim.graph,
             tables,
             header,
             nodes,
@@ -157,6 +156,19 @@ impl<'a> Scope<'a> {
             return None;
         }
         passed(self.instr(k), self.address(k)?, self.address(to)?, row, r)
+    }
+
+    /// What a branch says on the way from a node to another.
+    pub fn said(&self, k: usize, to: usize) -> Option<Said> {
+        said_by(self.instr(k), self.address(k)?, self.address(to)?)
+    }
+
+    /// Whether no run goes from a node to another.
+    pub fn is_never(&self, k: usize, to: usize) -> bool {
+        match self.tables.values.rows.get(k) {
+            Some(row) => are_arcs_kept(row) && is_impossible(self.said(k, to), row),
+            None => false,
+        }
     }
 
     /// Where its value comes from.

@@ -3,7 +3,7 @@
 ghost use Rattle.std.specs.Prelude.{◌<◌, length};
 
 use crate::quiet::quiet_of;
-use crate::relating::{Known, behind, is_used_on, target_of};
+use crate::relating::{Known, behind, is_used_on, on_way, target_of};
 use crate::scope::Scope;
 use crate::stores::stored_word;
 use scale_base::{ImmOp, Instr, NoMemory, RegOp};
@@ -31,6 +31,8 @@ struct Flow {
     end: Option<Relation>,
     used: bool,
     changed: bool,
+    // Whether what changes is forgotten.
+    ends: bool,
 }
 
 /// By node of the program its number in the loop.
@@ -67,6 +69,7 @@ impl Flow {
             end: None,
             used: true,
             changed: false,
+            ends: false,
         })
     }
 
@@ -75,14 +78,14 @@ impl Flow {
     }
 
     // Takes what a way to a node of the loop says.
-    fn arrive(&mut self, number: usize, then: &Known, ends: bool) {
+    fn arrive(&mut self, number: usize, then: &Known) {
         if number >= self.known.len() {
             return;
         }
         match self.known[number] {
             Some(known) => {
                 let mut known = known;
-                if known.join(then, ends) {
+                if known.join(then, self.ends) {
                     self.known[number] = Some(known);
                     self.changed = true;
                 }
@@ -104,15 +107,31 @@ impl Flow {
     }
 }
 
-// What a node's ways say.
-fn flow_from(
-    flow: &mut Flow,
+// What is known on the way from a node to another, by what is known before and behind the node's instruction, if a run may go there.
+fn known_to(
     scope: &Scope<'_>,
-    numbers: &Numbers,
-    place: TurnPlace,
+    known: &Known,
+    behind: &Known,
     k: usize,
-    ends: bool,
-) {
+    to: usize,
+) -> Option<Known> {
+    if scope.callee_of(k).is_some() {
+        return Some(*behind);
+    }
+    if scope.is_never(k, to) {
+        return None;
+    }
+    let mut then = if to == scope.header {
+        *behind
+    } else {
+        on_way(scope, behind, k, to)
+    };
+    then.used = is_used_on(scope, known, k, to);
+    Some(then)
+}
+
+// What a node's ways say.
+fn flow_from(flow: &mut Flow, scope: &Scope<'_>, numbers: &Numbers, place: TurnPlace, k: usize) {
     let Some(known) = flow.at(numbers.of(k)) else {
         return;
     };
@@ -120,20 +139,12 @@ fn flow_from(
         return;
     }
     let then = behind(scope, place, &known, k);
-    let calls = scope.callee_of(k).is_some();
     for to in scope.targets_of(k) {
         if let Some(to) = to {
-            let used = if calls {
-                known.used
-            } else {
-                is_used_on(scope, &known, k, to)
-            };
-            if to == scope.header {
-                flow.turn(then.at_place(place), used);
-            } else if scope.is_in_body(to) {
-                let mut then = then;
-                then.used = used;
-                flow.arrive(numbers.of(to), &then, ends);
+            match known_to(scope, &known, &then, k, to) {
+                Some(then) if to == scope.header => flow.turn(then.at_place(place), then.used),
+                Some(then) if scope.is_in_body(to) => flow.arrive(numbers.of(to), &then),
+                _ => {}
             }
         }
     }
@@ -148,13 +159,14 @@ fn flow_of(
     first: Relation,
 ) -> Result<Option<Flow>, NoMemory> {
     let mut flow = Flow::new(alloc, scope.nodes.len())?;
-    flow.arrive(numbers.of(scope.header), &Known::begun(place, first), false);
+    flow.arrive(numbers.of(scope.header), &Known::begun(place, first));
     for pass in 0..PASSES {
         flow.changed = false;
         flow.end = None;
         flow.used = true;
+        flow.ends = pass >= LAST_PASSES;
         for k in scope.nodes {
-            flow_from(&mut flow, scope, numbers, place, *k, pass >= LAST_PASSES);
+            flow_from(&mut flow, scope, numbers, place, *k);
         }
         if !flow.changed {
             return Ok(Some(flow));
@@ -229,6 +241,25 @@ fn place_top(scope: &Scope<'_>, place: TurnPlace) -> u32 {
     }
 }
 
+// How turns are counted that add something to a number.
+fn raised(scope: &Scope<'_>, place: TurnPlace, flow: &Flow) -> Option<Measured> {
+    let Some(Relation::Above(least)) = flow.end else {
+        return None;
+    };
+    let arc = place_arc(scope, place)?;
+    let from = u32::try_from(arc.low()).ok()?;
+    let width = u32::try_from(arc.more()).ok()?;
+    from.checked_add(width)?;
+    if least == 0 {
+        return None;
+    }
+    Some(Measured {
+        kind: TurnKind::Raises(from),
+        least,
+        width,
+    })
+}
+
 // How turns are counted that lower a number or halve it.
 fn reduced(scope: &Scope<'_>, place: TurnPlace, flow: &Flow) -> Option<Measured> {
     let Some(Relation::Below(less, shift)) = flow.end else {
@@ -274,9 +305,14 @@ fn best_of(
     best: Option<Found>,
 ) -> Result<Option<Found>, NoMemory> {
     let mut best = best;
-    for first in [Relation::Ahead(0, 0), Relation::Below(0, 0)] {
+    for first in [
+        Relation::Ahead(0, 0),
+        Relation::Below(0, 0),
+        Relation::Above(0),
+    ] {
         if let Some(flow) = flow_of(alloc, scope, numbers, place, first)? {
-            let measured = better(moved(scope, place, &flow), reduced(scope, place, &flow));
+            let risen = better(moved(scope, place, &flow), raised(scope, place, &flow));
+            let measured = better(risen, reduced(scope, place, &flow));
             if let Some(measured) = measured {
                 let bound = match best {
                     Some(found) => found.measured.bound(),
@@ -298,11 +334,13 @@ fn best_of(
 // Whether an instruction may move, lower or halve what it writes.
 fn is_counting(instr: Instr) -> bool {
     match instr {
-        Instr::Imm { op, .. } => { matches!(&op, ImmOp::Addi | ImmOp::Srli | ImmOp::Srai) }
+        Instr::Imm { op, .. } => {
+            matches!(&op, ImmOp::Addi | ImmOp::Slli | ImmOp::Srli | ImmOp::Srai)
+        }
         Instr::Reg { op, .. } => {
             matches!(
                 &op,
-                RegOp::Add | RegOp::Sub | RegOp::Mulhu | RegOp::Divu | RegOp::Remu
+                RegOp::Add | RegOp::Sub | RegOp::And | RegOp::Mulhu | RegOp::Divu | RegOp::Remu
             )
         }
         _ => false,

@@ -48,7 +48,8 @@ pub record AreReadAs (original : Image) (v : FlowGraph) (pieces : List Piece) (n
 
 -- The pieces of a loop file of the image: how many loops it has, how many of them with a bound that is shown by the code, and whether the code shows
 -- that returns go back.
-pub record AreTakenPieces (original : Image) (v : FlowGraph) (pieces : List Piece) (loops proved : ℕ) (returns : Bool) (aside : ℕ) : Type 0 where
+pub record AreTakenPieces (original : Image) (v : FlowGraph) (pieces : List Piece) (loops proved : ℕ) (returns : Bool) (aside : ℕ)
+    : Type 0 where
   pub notes : List LoopNote
   pub file : AreReadAs original v pieces notes aside
   pub bounds : AreBoundsFound original notes returns
@@ -71,7 +72,8 @@ pub record IsDraftOf (original : Image) (draft : LoopDraft) : Type 0 where
 -- Why the file of pieces isn't read: it is too long, or what the call answers that reads it.
 abbrev pub ArePiecesUnread : Image → List Piece → Refusal → Type 0
 ArePiecesUnread original pieces refusal =
-    ((FILE_LIMIT < length (filled_most pieces)) × (refusal ≡ TooLarge (codes "LOOPS"))) ⊎ (IsShort pieces × (read_loops original (filled_most pieces) ≡ Err refusal))
+    ((FILE_LIMIT < length (filled_most pieces)) × (refusal ≡ TooLarge (codes "LOOPS")))
+    ⊎ (IsShort pieces × (read_loops original (filled_most pieces) ≡ Err refusal))
 
 -- Why pieces are refused: their file isn't read, or what the call answers that builds its loops.
 abbrev pub ArePiecesRefused : Image → FlowGraph → List Piece → Refusal → Type 0

@@ -177,7 +177,7 @@ impl Sources<'_> {
         claim: &StackClaim<'_>,
         k: usize,
     ) -> Result<Option<StackCertificate>, NoMemory> {
-        find_certificate(alloc, claim.view, claim.graph, self.tree, self.tables, k)
+        find_certificate(alloc, claim, self.tree, self.tables, k)
     }
 
     // Whether counting the turns of loop k of a program costs little of what they take.
@@ -309,21 +309,27 @@ fn loops_to_count(
     }
 }
 
+// The notes of the loops whose bounds are looked for, and whether some of them may be counted.
+#[derive(Clone, Copy)]
+struct Wanted<'a> {
+    notes: &'a LoopNotes,
+    counts: bool,
+}
+
 // The bounds of loops that are taken.
 fn bounds_of(
     alloc: Global,
     view: &ImageView<'_>,
     graph: &CodeGraph,
     tree: &LoopTree,
-    notes: &LoopNotes,
-    counts: bool,
+    wanted: Wanted<'_>,
 ) -> Result<Bounds, NoMemory>
     requires { IsGraphOf (text_of view.now) graph.now }
     ensures found { IfOk result (λ b. AreBoundsFound view.now b.notes.items b.returns) }
 {
     let tables = analyse_loops(alloc, view, graph, tree)?;
     if !is_sized(graph, &tables.values) || !is_stack_sized(graph, &tables.stack) {
-        return open_all(alloc, notes, Reason::NotAnalysed);
+        return open_all(alloc, wanted.notes, Reason::NotAnalysed);
     }
     let _file = view.file();
     let claim = StackClaim {
@@ -332,13 +338,13 @@ fn bounds_of(
         table: &tables.values,
         stack: &tables.stack,
     };
-    let dear = loops_to_count(alloc, graph, tree, counts)?;
+    let dear = loops_to_count(alloc, graph, tree, wanted.counts)?;
     let sources = Sources {
         tree,
         tables: &tables,
         dear: &dear,
     };
-    bounds_by(alloc, &claim, &sources, notes)
+    bounds_by(alloc, &claim, &sources, wanted.notes)
 }
 
 /// The bounds of noted loops that the code shows, and whether returns go back; and which loops are to be counted, where some may be. Where the loops aren't taken,
@@ -354,7 +360,7 @@ pub fn find_bounds(
     ensures found { IfOk result (λ b. AreBoundsFound view.now b.notes.items b.returns) }
 {
     match build_loops(alloc, graph, notes) {
-        Ok(tree) => bounds_of(alloc, view, graph, &tree, notes, counts),
+        Ok(tree) => bounds_of(alloc, view, graph, &tree, Wanted { notes, counts }),
         Err(Stop::Refused(_)) => open_all(alloc, notes, Reason::EnteredAside),
         Err(Stop::Memory) => Err(NoMemory),
     }

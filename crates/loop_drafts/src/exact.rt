@@ -71,14 +71,22 @@ fn instr_or_end(view: &ImageView<'_>, at: u32) -> Instr {
     }
 }
 
+// An instruction, its address, and that of the next one.
+#[derive(Clone, Copy)]
+struct Executed {
+    instr: Instr,
+    at: u32,
+    next: u32,
+}
+
 // The interval of a register behind the instruction of a node, by the row there.
-fn behind_row(table: &ValueTable, k: usize, instr: Instr, at: u32, next: u32, r: u8) -> Option<Arc>
+fn behind_row(table: &ValueTable, k: usize, by: Executed, r: u8) -> Option<Arc>
     requires row { k < length table.now.rows.items }
     requires kept { All (All IsKeptOr) table.now.rows.items }
     ensures { IsKeptOr result }
 {
     if r < 32 {
-        kept(passed(instr, at, next, &table.rows[k], r))
+        kept(passed(by.instr, by.at, by.next, &table.rows[k], r))
     } else {
         None
     }
@@ -92,9 +100,12 @@ fn register_behind(claim: &StackClaim<'_>, step: Step, r: u8) -> Option<Arc>
     ensures { IsKeptOr result }
 {
     let at = claim.graph.node(step.from);
-    let next = claim.graph.node(step.to);
-    let instr = instr_or_end(claim.view, at);
-    behind_row(claim.table, step.from, instr, at, next, r)
+    let by = Executed {
+        instr: instr_or_end(claim.view, at),
+        at,
+        next: claim.graph.node(step.to),
+    };
+    behind_row(claim.table, step.from, by, r)
 }
 
 // The interval of a sum of registers behind an edge.

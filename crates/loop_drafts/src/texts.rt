@@ -65,17 +65,24 @@ fn number_of(loops: &[FoundLoop], header: u32) -> Option<usize> {
     Some(place.saturating_add(1))
 }
 
+// The number of a loop, and that of the loop round it.
+#[derive(Clone, Copy)]
+struct LoopNumbers {
+    number: usize,
+    outer: Option<usize>,
+}
+
 // Adds the line over a loop: its number, its header, the loop round it and its depth.
 fn push_head(
     text: &mut String,
     remarks: &Remarks<'_>,
     found: &FoundLoop,
-    number: usize,
-    outer: Option<usize>,
+    numbers: LoopNumbers,
 ) -> Result<(), AllocError> {
+    let number = numbers.number;
     write!(text, "\n# loop {number}: ")?;
     remarks.push_place(text, found.header)?;
-    if let Some(outer) = outer {
+    if let Some(outer) = numbers.outer {
         write!(text, ", within loop {outer}")?;
     }
     let depth = found.depth;
@@ -164,14 +171,13 @@ fn loop_piece(
     alloc: Global,
     remarks: &Remarks<'_>,
     found: &FoundLoop,
-    number: usize,
-    outer: Option<usize>,
+    numbers: LoopNumbers,
     known: Known,
 ) -> Result<Piece, NoMemory> {
     let names = remarks.names;
     let mut text = String::new(alloc);
-    push_head(&mut text, remarks, found, number, outer)?;
-    remarks.push_turns(&mut text, number.saturating_sub(1))?;
+    push_head(&mut text, remarks, found, numbers)?;
+    remarks.push_turns(&mut text, numbers.number.saturating_sub(1))?;
     text.push_str("[[loop]]\nheader = ")?;
     push_address(&mut text, names, found.header, 0)?;
     text.push_str("\n")?;
@@ -268,8 +274,11 @@ fn loop_pieces(
             Some(header) => number_of(&found.loops, header),
             None => None,
         };
-        let number = k.saturating_add(1);
-        pieces.push(loop_piece(alloc, remarks, looped, number, outer, *one)?)?;
+        let numbers = LoopNumbers {
+            number: k.saturating_add(1),
+            outer,
+        };
+        pieces.push(loop_piece(alloc, remarks, looped, numbers, *one)?)?;
     }
     Ok(pieces)
 }

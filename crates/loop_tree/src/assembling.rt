@@ -39,19 +39,25 @@ fn counted_of(alloc: Global, notes: &LoopNotes) -> Result<Vec<bool>, NoMemory>
     Ok(counted)
 }
 
+/// By edge the loop whose back edge it is, and the nodes in an order along the other edges.
+#[derive(Drop)]
+pub struct EdgeOrder {
+    pub backs: Vec<Option<usize>>,
+    pub order: Vec<usize>,
+}
+
 /// The tree of the loops of notes, with their back edges and an order along plain edges.
 pub fn assemble(
     alloc: Global,
     graph: &CodeGraph,
     notes: &LoopNotes,
     found: NaturalLoops,
-    backs: Vec<Option<usize>>,
-    order: Vec<usize>,
+    edges: EdgeOrder,
 ) -> Result<LoopTree, NoMemory>
     requires flow { IsFlowGraph graph.now }
     requires loops { AreNaturalLoops graph.now notes.now found }
-    requires backs { AreBacks graph.now found.headers found.bodies (length graph.now.code.edges) backs.items }
-    requires order { ArePlainOrdered graph.now (loops_seen graph.now notes.now found) order.items }
+    requires backs { AreBacks graph.now found.headers found.bodies (length graph.now.code.edges) edges.backs.items }
+    requires order { ArePlainOrdered graph.now (loops_seen graph.now notes.now found) edges.order.items }
     ensures { IfOk result (λ tree. IsTreeOf graph.now notes.now tree) }
 {
     let nesting = nest_loops(alloc, &found.bodies, &found.headers, graph.node_count())?;
@@ -65,9 +71,9 @@ pub fn assemble(
         counted,
         least_trips,
         bodies: found.bodies,
-        backs,
+        backs: edges.backs,
         innermost,
         parent,
-        order,
+        order: edges.order,
     }))
 }

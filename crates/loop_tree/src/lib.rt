@@ -12,7 +12,7 @@ mod natural;
 mod trips;
 
 use crate::natural::find_loops;
-use assembling::assemble;
+use assembling::{EdgeOrder, assemble};
 use backs::back_loops;
 use cycles::cycle_of;
 use flow_graph::CodeGraph;
@@ -34,7 +34,7 @@ pub fn build_loops(alloc: Global, graph: &CodeGraph, notes: &LoopNotes) -> Resul
     match sort(alloc, count, &arcs)? {
         Order::Sorted(mut order) => {
             order.reverse();
-            Ok(assemble(alloc, graph, notes, found, backs, order)?)
+            Ok(assemble(alloc, graph, notes, found, EdgeOrder { backs, order })?)
         }
         Order::Cycle(numbers) => {
             let cycle = cycle_of(alloc, graph, &numbers)?;

@@ -185,7 +185,8 @@ module _ (image : Image) (pieces : List Piece) (base : ℕ) where
   is_right place (Jumped at to) = is_jump_right at to (read image at) && fits (jump place to) && stays_in pieces base place to
   is_right place (Bridge at to) = stands_for pieces base to at && fits (jump place to) && stays_in pieces base place to
   is_right place (Guard at larger smaller limit to) =
-      is_guard_right pieces base place at larger smaller limit to && stays_in pieces base place (place + 36) && stays_in pieces base place to
+      is_guard_right pieces base place at larger smaller limit to && stays_in pieces base place (place + 36)
+      && stays_in pieces base place to
   is_right place (Entered at to end) = is_call_right place at to (read image at) && fits (jump (place + 8) to)
   is_right place (Returned at to) = is_return_right place to (read image at) && fits (jump place to)
 

@@ -2,51 +2,40 @@
 
 ghost use Rattle.std.specs.Prelude.{◌≡◌, ◌≤◌, ◌<◌, ◌+◌, ◌*◌, ◌^◌, ◌==◌, ◌&&◌, count_by, length, true, Ok, Some, IfOk};
 ghost use Rattle.std.specs.List.{list_all};
-ghost use Rattle.scale_base.specs.Elf as elf;
 ghost use Rattle.scale_base.specs.Image.{image_of};
 ghost use Rattle.image_lower.specs.FarJumps as far;
 ghost use Rattle.loop_versions.specs.Fitting as fitting;
 
 use crate::calls::stays_in;
-use crate::fitting::{fits_jump, is_free, is_right, origin_of, piece_len, stands_for};
+use crate::fitting::{Block, fits_jump, is_free, is_right, origin_of, piece_len, stands_for};
 use crate::pieces::{Piece, Site};
-use byteorder::{ByteOrder, LittleEndian};
 use elf_image::ImageView;
-use elf_view::program_header_count;
+use image_lower::is_in_table;
 use scale_base::NoMemory;
 use std::alloc::Global;
 
 /// Whether each of some pieces, which stand one behind the other from a place on, leads on to what stands for the next instructions.
 pub fn are_right(
     alloc: Global,
-    view: &ImageView<'_>,
-    pieces: &[Piece],
-    base: u32,
+    block: &Block<'_>,
     place: u32,
     others: &[Piece],
 ) -> Result<bool, NoMemory>
-    requires few { length pieces.now ≤ 4096 }
-    requires image { image_of view.now.file ≡ Ok view.now }
+    requires few { length block.now.pieces.now ≤ 4096 }
+    requires image { image_of block.now.view.now.file ≡ Ok block.now.view.now }
     requires room { place + 36 * length others.now < 2 ^ 32 }
-    ensures { IfOk result (λ fit. fit ≡ fitting.are_right view.now pieces.now base place others.now) }
+    ensures { IfOk result (λ fit. fit ≡ fitting.are_right block.now.view.now block.now.pieces.now block.now.base place others.now) }
 {
     match others {
         [] => Ok(true),
         [first, rest @ ..] => {
-            if !view.is_text_word(origin_of(first)) {
+            if !block.view.is_text_word(origin_of(first)) {
                 return Ok(false);
             }
-            if !is_right(alloc, view, pieces, base, place, first)? {
+            if !is_right(alloc, block, place, first)? {
                 return Ok(false);
             }
-            are_right(
-                alloc,
-                view,
-                pieces,
-                base,
-                place + 4 * piece_len(first),
-                rest,
-            )
+            are_right(alloc, block, place + 4 * piece_len(first), rest)
         }
     }
 }
@@ -66,37 +55,6 @@ pub fn are_free(pieces: &[Piece], sites: &[Site], base: u32, place: u32, others:
     }
 }
 
-/// Where the program header table begins.
-#[tactic(auto, unfolding(scale_base::specs::Bytes::list_half_at, scale_base::specs::Bytes::list_word_at))]
-fn table_offset(file: &[u8]) -> usize
-    requires { 52 ≤ length file.now }
-    ensures value { result ≡ elf.e_phoff file.now }
-    ensures small { result < 2 ^ 32 }
-{
-    LittleEndian::read_u32(&file[28..]) as usize
-}
-
-/// Whether the four bytes from a place on share one with the program header table.
-fn touches_table(file: &[u8], place: usize) -> bool
-    requires header { 52 ≤ length file.now }
-    requires within { place + 4 ≤ length file.now }
-    ensures { result ≡ far.touches_table file.now (Some place) }
-{
-    let from = table_offset(file);
-    let entries = program_header_count(file);
-    entries > 0 && place < from + 32 * entries && from < place + 4
-}
-
-/// Whether the word at an address lies in the program header table.
-fn is_in_table(view: &ImageView<'_>, at: u32) -> bool
-    ensures { result ≡ far.is_in_table view.now.file at }
-{
-    match view.file_place(at) {
-        Some(place) => touches_table(view.file(), place),
-        None => false,
-    }
-}
-
 fn is_once(sites: &[Site], at: u32) -> bool
     ensures { result ≡ (count_by (λ o. o.at == at) sites.now == 1) }
 {
@@ -106,23 +64,32 @@ fn is_once(sites: &[Site], at: u32) -> bool
 /// Whether a word of the text may become a jump to what stands for it.
 pub fn is_site_right(
     alloc: Global,
-    view: &ImageView<'_>,
-    pieces: &[Piece],
+    block: &Block<'_>,
     sites: &[Site],
-    base: u32,
     site: &Site,
 ) -> Result<bool, NoMemory>
-    requires { length pieces.now ≤ 4096 }
-    ensures { IfOk result (λ fit. fit ≡ fitting.is_site_right view.now pieces.now sites.now base site.now) }
+    requires { length block.now.pieces.now ≤ 4096 }
+    ensures { IfOk result (λ fit. fit ≡ fitting.is_site_right block.now.view.now block.now.pieces.now sites.now block.now.base site.now) }
 {
-    let leads = view.is_text_word(site.at)
-        && !is_in_table(view, site.at)
+    let leads = block.view.is_text_word(site.at)
+        && !is_in_table(block.view, site.at)
         && is_once(sites, site.at)
-        && stands_for(pieces, base, u64::from(site.to), u64::from(site.at));
+        && stands_for(
+            block.pieces,
+            block.base,
+            u64::from(site.to),
+            u64::from(site.at),
+        );
     if !leads {
         return Ok(false);
     }
-    if !stays_in(alloc, pieces, base, u64::from(site.at), u64::from(site.to))? {
+    if !stays_in(
+        alloc,
+        block.pieces,
+        block.base,
+        u64::from(site.at),
+        u64::from(site.to),
+    )? {
         return Ok(false);
     }
     Ok(fits_jump(site.at, site.to))
@@ -130,22 +97,21 @@ pub fn is_site_right(
 
 fn are_sites_right(
     alloc: Global,
-    view: &ImageView<'_>,
-    pieces: &[Piece],
+    block: &Block<'_>,
     sites: &[Site],
-    base: u32,
     others: &[Site],
 ) -> Result<bool, NoMemory>
-    requires { length pieces.now ≤ 4096 }
-    ensures { IfOk result (λ fit. fit ≡ list_all (fitting.is_site_right view.now pieces.now sites.now base) others.now) }
+    requires { length block.now.pieces.now ≤ 4096 }
+    ensures { IfOk result (λ fit. fit ≡ list_all (fitting.is_site_right block.now.view.now block.now.pieces.now sites.now block.now.base)
+        others.now) }
 {
     match others {
         [] => Ok(true),
         [first, rest @ ..] => {
-            if !is_site_right(alloc, view, pieces, sites, base, first)? {
+            if !is_site_right(alloc, block, sites, first)? {
                 return Ok(false);
             }
-            are_sites_right(alloc, view, pieces, sites, base, rest)
+            are_sites_right(alloc, block, sites, rest)
         }
     }
 }
@@ -193,10 +159,11 @@ pub fn are_fit(
     if !are_there(view, pieces) {
         return Ok(false);
     }
-    if !are_right(alloc, view, pieces, base, base, pieces)? {
+    let block = Block { view, pieces, base };
+    if !are_right(alloc, &block, base, pieces)? {
         return Ok(false);
     }
-    if !are_sites_right(alloc, view, pieces, sites, base, sites)? {
+    if !are_sites_right(alloc, &block, sites, sites)? {
         return Ok(false);
     }
     Ok(are_free(pieces, sites, base, base, pieces) && are_sites_free(pieces, sites, base, sites))

@@ -111,12 +111,21 @@ pub fn stands_for(pieces: &[Piece], base: u32, v: u64, at: u64) -> bool
     origin(pieces, base, v) == at
 }
 
+/// Pieces that stand one behind the other behind an image, the first at the base.
+#[derive(Clone, Copy)]
+pub struct Block<'a> {
+    pub view: &'a ImageView<'a>,
+    pub pieces: &'a [Piece],
+    pub base: u32,
+}
+
 /// The target of a jump is a word of the text, and a way leads to what stands for it.
-pub fn leads_to(view: &ImageView<'_>, pieces: &[Piece], base: u32, to: u32, target: u32) -> bool
-    requires { length pieces.now ≤ 4096 }
-    ensures { result ≡ fitting.leads_to view.now pieces.now base to target }
+pub fn leads_to(block: &Block<'_>, to: u32, target: u32) -> bool
+    requires { length block.now.pieces.now ≤ 4096 }
+    ensures { result ≡ fitting.leads_to block.now.view.now block.now.pieces.now block.now.base to target }
 {
-    view.is_text_word(target) && stands_for(pieces, base, u64::from(to), u64::from(target))
+    block.view.is_text_word(target)
+        && stands_for(block.pieces, block.base, u64::from(to), u64::from(target))
 }
 
 /// The register numbers and the limit of a guard.
@@ -127,16 +136,15 @@ pub fn is_guard(larger: u8, smaller: u8, limit: u16) -> bool
 }
 
 /// Whether the `jal x0` at an address leads to what `to` stands for.
-pub fn is_jump_right(view: &ImageView<'_>, pieces: &[Piece], base: u32, at: u32, to: u32) -> bool
-    requires few { length pieces.now ≤ 4096 }
-    requires image { image_of view.now.file ≡ Ok view.now }
-    requires word { is_word_address view.now at ≡ true }
-    ensures { result ≡ fitting.is_jump_right view.now pieces.now base at to (code.read view.now at) }
+pub fn is_jump_right(block: &Block<'_>, at: u32, to: u32) -> bool
+    requires few { length block.now.pieces.now ≤ 4096 }
+    requires image { image_of block.now.view.now.file ≡ Ok block.now.view.now }
+    requires word { is_word_address block.now.view.now at ≡ true }
+    ensures { result ≡ fitting.is_jump_right block.now.view.now block.now.pieces.now block.now.base at to
+        (code.read block.now.view.now at) }
 {
-    match instr_at(view, at) {
-        Some(Instr::Jal { rd, offset }) => {
-            rd == 0 && leads_to(view, pieces, base, to, moved(at, offset))
-        }
+    match instr_at(block.view, at) {
+        Some(Instr::Jal { rd, offset }) => { rd == 0 && leads_to(block, to, moved(at, offset)) }
         _ => false,
     }
 }
@@ -144,44 +152,42 @@ pub fn is_jump_right(view: &ImageView<'_>, pieces: &[Piece], base: u32, at: u32,
 /// Whether the instruction at an address may be copied to a place.
 pub fn is_copy_right(
     alloc: Global,
-    view: &ImageView<'_>,
-    pieces: &[Piece],
-    base: u32,
+    block: &Block<'_>,
     place: u64,
     at: u32,
 ) -> Result<bool, NoMemory>
-    requires few { length pieces.now ≤ 4096 }
+    requires few { length block.now.pieces.now ≤ 4096 }
     requires place { place < 2 ^ 36 }
-    requires image { image_of view.now.file ≡ Ok view.now }
-    requires word { is_word_address view.now at ≡ true }
-    ensures { IfOk result (λ fit. fit ≡ fitting.is_copy_right view.now pieces.now base place at (code.read view.now at)) }
+    requires image { image_of block.now.view.now.file ≡ Ok block.now.view.now }
+    requires word { is_word_address block.now.view.now at ≡ true }
+    ensures { IfOk result (λ fit. fit ≡ fitting.is_copy_right block.now.view.now block.now.pieces.now block.now.base place at
+        (code.read block.now.view.now at)) }
 {
-    let leads = is_plain(instr_at(view, at))
-        && stands_for(pieces, base, place + 4, u64::from(at) + 4);
+    let leads = is_plain(instr_at(block.view, at))
+        && stands_for(block.pieces, block.base, place + 4, u64::from(at) + 4);
     if !leads {
         return Ok(false);
     }
-    stays_in(alloc, pieces, base, place, place + 4)
+    stays_in(alloc, block.pieces, block.base, place, place + 4)
 }
 
 /// Whether the branch at an address leads from a place to what its two ways stand for.
-pub fn is_branch_right(
-    view: &ImageView<'_>,
-    pieces: &[Piece],
-    base: u32,
-    place: u32,
-    at: u32,
-    to: u32,
-) -> bool
-    requires few { length pieces.now ≤ 4096 }
-    requires image { image_of view.now.file ≡ Ok view.now }
-    requires word { is_word_address view.now at ≡ true }
-    ensures { result ≡ fitting.is_branch_right view.now pieces.now base place at to (code.read view.now at) }
+pub fn is_branch_right(block: &Block<'_>, place: u32, at: u32, to: u32) -> bool
+    requires few { length block.now.pieces.now ≤ 4096 }
+    requires image { image_of block.now.view.now.file ≡ Ok block.now.view.now }
+    requires word { is_word_address block.now.view.now at ≡ true }
+    ensures { result ≡ fitting.is_branch_right block.now.view.now block.now.pieces.now block.now.base place at to
+        (code.read block.now.view.now at) }
 {
-    match instr_at(view, at) {
+    match instr_at(block.view, at) {
         Some(Instr::Branch { offset, .. }) => {
-            leads_to(view, pieces, base, to, moved(at, offset))
-                && stands_for(pieces, base, u64::from(place) + 4, u64::from(at) + 4)
+            leads_to(block, to, moved(at, offset))
+                && stands_for(
+                    block.pieces,
+                    block.base,
+                    u64::from(place) + 4,
+                    u64::from(at) + 4,
+                )
                 && is_branch_offset(distance(place, to))
         }
         _ => false,
@@ -191,25 +197,24 @@ pub fn is_branch_right(
 /// Whether the `jal x1` at an address leads to what `to` stands for, with this call alone opened.
 pub fn is_call_right(
     alloc: Global,
-    view: &ImageView<'_>,
-    pieces: &[Piece],
-    base: u32,
+    block: &Block<'_>,
     place: u32,
     at: u32,
     to: u32,
 ) -> Result<bool, NoMemory>
-    requires few { length pieces.now ≤ 4096 }
-    requires image { image_of view.now.file ≡ Ok view.now }
-    requires word { is_word_address view.now at ≡ true }
-    ensures { IfOk result (λ fit. fit ≡ fitting.is_call_right view.now pieces.now base place at to (code.read view.now at)) }
+    requires few { length block.now.pieces.now ≤ 4096 }
+    requires image { image_of block.now.view.now.file ≡ Ok block.now.view.now }
+    requires word { is_word_address block.now.view.now at ≡ true }
+    ensures { IfOk result (λ fit. fit ≡ fitting.is_call_right block.now.view.now block.now.pieces.now block.now.base place at to
+        (code.read block.now.view.now at)) }
 {
-    match instr_at(view, at) {
+    match instr_at(block.view, at) {
         Some(Instr::Jal { rd, offset }) => {
-            if !(rd == 1 && leads_to(view, pieces, base, to, moved(at, offset))) {
+            if !(rd == 1 && leads_to(block, to, moved(at, offset))) {
                 return Ok(false);
             }
-            let there = calls_at(alloc, pieces, base, u64::from(to))?;
-            let here = calls_at(alloc, pieces, base, u64::from(place))?;
+            let there = calls_at(alloc, block.pieces, block.base, u64::from(to))?;
+            let here = calls_at(alloc, block.pieces, block.base, u64::from(place))?;
             Ok(begins_behind(&there, at.wrapping_add(4), &here))
         }
         _ => Ok(false),
@@ -217,24 +222,17 @@ pub fn is_call_right(
 }
 
 /// Whether a way leads behind the innermost of some calls, where the others alone are open.
-pub fn is_back(
-    alloc: Global,
-    view: &ImageView<'_>,
-    pieces: &[Piece],
-    base: u32,
-    to: u32,
-    calls: &[u32],
-) -> Result<bool, NoMemory>
-    requires { length pieces.now ≤ 4096 }
-    ensures { IfOk result (λ fit. fit ≡ fitting.is_back view.now pieces.now base to calls.now) }
+pub fn is_back(alloc: Global, block: &Block<'_>, to: u32, calls: &[u32]) -> Result<bool, NoMemory>
+    requires { length block.now.pieces.now ≤ 4096 }
+    ensures { IfOk result (λ fit. fit ≡ fitting.is_back block.now.view.now block.now.pieces.now block.now.base to calls.now) }
 {
     match calls {
         [] => Ok(false),
         [back, others @ ..] => {
-            if !leads_to(view, pieces, base, to, *back) {
+            if !leads_to(block, to, *back) {
                 return Ok(false);
             }
-            let there = calls_at(alloc, pieces, base, u64::from(to))?;
+            let there = calls_at(alloc, block.pieces, block.base, u64::from(to))?;
             Ok(begins(&there, others))
         }
     }
@@ -253,23 +251,22 @@ fn is_return(instr: Option<Instr>) -> bool
 /// Whether the return at an address leads behind the innermost of the inlined calls that are open at a place.
 pub fn is_return_right(
     alloc: Global,
-    view: &ImageView<'_>,
-    pieces: &[Piece],
-    base: u32,
+    block: &Block<'_>,
     place: u32,
     at: u32,
     to: u32,
 ) -> Result<bool, NoMemory>
-    requires few { length pieces.now ≤ 4096 }
-    requires image { image_of view.now.file ≡ Ok view.now }
-    requires word { is_word_address view.now at ≡ true }
-    ensures { IfOk result (λ fit. fit ≡ fitting.is_return_right view.now pieces.now base place to (code.read view.now at)) }
+    requires few { length block.now.pieces.now ≤ 4096 }
+    requires image { image_of block.now.view.now.file ≡ Ok block.now.view.now }
+    requires word { is_word_address block.now.view.now at ≡ true }
+    ensures { IfOk result (λ fit. fit ≡ fitting.is_return_right block.now.view.now block.now.pieces.now block.now.base place to
+        (code.read block.now.view.now at)) }
 {
-    if !is_return(instr_at(view, at)) {
+    if !is_return(instr_at(block.view, at)) {
         return Ok(false);
     }
-    let here = calls_at(alloc, pieces, base, u64::from(place))?;
-    is_back(alloc, view, pieces, base, to, &here)
+    let here = calls_at(alloc, block.pieces, block.base, u64::from(place))?;
+    is_back(alloc, block, to, &here)
 }
 
 /// How far a jump goes.
@@ -304,65 +301,70 @@ pub fn is_branch_offset(offset: i32) -> bool
     offset % 2 == 0 && offset >= -4096 && offset < 4096
 }
 
-/// Whether the ways of a guard at a place lead to what stands for its instruction.
-fn is_guard_right(
-    pieces: &[Piece],
-    base: u32,
-    place: u32,
-    at: u32,
+/// The registers that a guard compares, and the limit of their difference.
+#[derive(Clone, Copy)]
+struct Compared {
     larger: u8,
     smaller: u8,
     limit: u16,
-    to: u32,
-) -> bool
-    requires few { length pieces.now ≤ 4096 }
+}
+
+/// Whether the ways of a guard at a place lead to what stands for its instruction.
+fn is_guard_right(block: &Block<'_>, place: u32, at: u32, compared: Compared, to: u32) -> bool
+    requires few { length block.now.pieces.now ≤ 4096 }
     requires room { place + 36 < 2 ^ 32 }
-    ensures { result ≡ fitting.is_guard_right pieces.now base place at larger smaller limit to }
+    ensures { result ≡ fitting.is_guard_right block.now.pieces.now block.now.base place at compared.larger compared.smaller compared.limit
+        to }
 {
-    is_guard(larger, smaller, limit)
-        && stands_for(pieces, base, u64::from(place) + 36, u64::from(at))
-        && stands_for(pieces, base, u64::from(to), u64::from(at))
+    is_guard(compared.larger, compared.smaller, compared.limit)
+        && stands_for(
+            block.pieces,
+            block.base,
+            u64::from(place) + 36,
+            u64::from(at),
+        )
+        && stands_for(block.pieces, block.base, u64::from(to), u64::from(at))
         && fits_jump(place + 24, to)
 }
 
 /// Whether a piece at a place leads on to what stands for the next instructions.
 pub fn is_right(
     alloc: Global,
-    view: &ImageView<'_>,
-    pieces: &[Piece],
-    base: u32,
+    block: &Block<'_>,
     place: u32,
     piece: &Piece,
 ) -> Result<bool, NoMemory>
-    requires few { length pieces.now ≤ 4096 }
-    requires image { image_of view.now.file ≡ Ok view.now }
-    requires word { is_word_address view.now (code.origin_of piece.now) ≡ true }
+    requires few { length block.now.pieces.now ≤ 4096 }
+    requires image { image_of block.now.view.now.file ≡ Ok block.now.view.now }
+    requires word { is_word_address block.now.view.now (code.origin_of piece.now) ≡ true }
     requires room { place + 36 < 2 ^ 32 }
-    ensures { IfOk result (λ fit. fit ≡ fitting.is_right view.now pieces.now base place piece.now) }
+    ensures { IfOk result (λ fit. fit ≡ fitting.is_right block.now.view.now block.now.pieces.now block.now.base place piece.now) }
 {
     let from = u64::from(place);
     match *piece {
-        Piece::Copied { at } => is_copy_right(alloc, view, pieces, base, from, at),
+        Piece::Copied { at } => is_copy_right(alloc, block, from, at),
         Piece::Branched { at, to } => {
-            if !is_branch_right(view, pieces, base, place, at, to) {
+            if !is_branch_right(block, place, at, to) {
                 return Ok(false);
             }
-            if !stays_in(alloc, pieces, base, from, from + 4)? {
+            if !stays_in(alloc, block.pieces, block.base, from, from + 4)? {
                 return Ok(false);
             }
-            stays_in(alloc, pieces, base, from, u64::from(to))
+            stays_in(alloc, block.pieces, block.base, from, u64::from(to))
         }
         Piece::Jumped { at, to } => {
-            if !(is_jump_right(view, pieces, base, at, to) && fits_jump(place, to)) {
+            if !(is_jump_right(block, at, to) && fits_jump(place, to)) {
                 return Ok(false);
             }
-            stays_in(alloc, pieces, base, from, u64::from(to))
+            stays_in(alloc, block.pieces, block.base, from, u64::from(to))
         }
         Piece::Bridge { at, to } => {
-            if !(stands_for(pieces, base, u64::from(to), u64::from(at)) && fits_jump(place, to)) {
+            if !(stands_for(block.pieces, block.base, u64::from(to), u64::from(at))
+                && fits_jump(place, to))
+            {
                 return Ok(false);
             }
-            stays_in(alloc, pieces, base, from, u64::from(to))
+            stays_in(alloc, block.pieces, block.base, from, u64::from(to))
         }
         Piece::Guard {
             at,
@@ -371,22 +373,27 @@ pub fn is_right(
             limit,
             to,
         } => {
-            if !is_guard_right(pieces, base, place, at, larger, smaller, limit, to) {
+            let compared = Compared {
+                larger,
+                smaller,
+                limit,
+            };
+            if !is_guard_right(block, place, at, compared, to) {
                 return Ok(false);
             }
-            if !stays_in(alloc, pieces, base, from, from + 36)? {
+            if !stays_in(alloc, block.pieces, block.base, from, from + 36)? {
                 return Ok(false);
             }
-            stays_in(alloc, pieces, base, from, u64::from(to))
+            stays_in(alloc, block.pieces, block.base, from, u64::from(to))
         }
         Piece::Entered { at, to, .. } => {
-            if !is_call_right(alloc, view, pieces, base, place, at, to)? {
+            if !is_call_right(alloc, block, place, at, to)? {
                 return Ok(false);
             }
             Ok(fits_jump(place + 8, to))
         }
         Piece::Returned { at, to } => {
-            if !is_return_right(alloc, view, pieces, base, place, at, to)? {
+            if !is_return_right(alloc, block, place, at, to)? {
                 return Ok(false);
             }
             Ok(fits_jump(place, to))

@@ -108,7 +108,8 @@ fn if_negative(larger: u8) -> Instr
 /// The instructions of a guard at a place; none of another piece.
 fn guard_code(alloc: Global, place: u32, piece: &Piece) -> Result<Vec<Instr>, NoMemory>
     requires { place + 36 < 2 ^ 32 }
-    ensures { IfOk result (λ made. (at larger smaller limit to : ℕ) → piece.now ≡ Guard at larger smaller limit to → made.items ≡ code.guard_code place larger smaller limit to) }
+    ensures { IfOk result (λ made. (at larger smaller limit to : ℕ) → piece.now ≡ Guard at larger smaller limit to
+        → made.items ≡ code.guard_code place larger smaller limit to) }
 {
     let mut made = Vec::new(alloc);
     if let Piece::Guard {

@@ -75,6 +75,13 @@ fn copied(alloc: Global, flags: &[bool]) -> Result<Vec<bool>, NoMemory> {
     Ok(copy)
 }
 
+// What the nodes of a loop add, and what its turns add by that.
+#[derive(Drop)]
+struct AddedTurns {
+    adds: Vec<u32>,
+    turns: Turns,
+}
+
 impl CountedLoop<'_> {
     // What is found with these turns.
     fn found_with(
@@ -82,11 +89,11 @@ impl CountedLoop<'_> {
         alloc: Global,
         claim: &StackClaim<'_>,
         ends: &Ends,
-        adds: Vec<u32>,
-        turns: Turns,
+        added: AddedTurns,
     ) -> Result<Option<LowerFound>, NoMemory>
         requires { IsStackClaim claim.now }
     {
+        let AddedTurns { adds, turns } = added;
         let behind = behind_of(alloc, &turns, &adds)?;
         let (Some(first), Some(last)) = (
             first_of(claim, ends, self.counter),
@@ -126,7 +133,7 @@ impl CountedLoop<'_> {
             adds: &adds,
         };
         match turns_of(alloc, &added)? {
-            Some(turns) => self.found_with(alloc, claim, ends, adds, turns),
+            Some(turns) => self.found_with(alloc, claim, ends, AddedTurns { adds, turns }),
             None => Ok(None),
         }
     }

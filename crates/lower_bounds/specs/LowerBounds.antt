@@ -95,7 +95,8 @@ pub record IsLate (v : Values) (w : Stacks) (c : LowerCertificate) (trips a : �
 
 -- What the code has to say of a certificate for the loop with this header and this extent, which is to turn so often. Each clause is about
 -- one edge of the graph, or about two of one call.
-pub record IsLowerCertificate (t : Text) (g : Graph) (v : Values) (w : Stacks) (header : ℕ) (extent : ℕ → Bool) (trips : ℕ) (c : LowerCertificate) : Type 0 where
+pub record IsLowerCertificate (t : Text) (g : Graph) (v : Values) (w : Stacks) (header : ℕ) (extent : ℕ → Bool) (trips : ℕ)
+    (c : LowerCertificate) : Type 0 where
   pub registers : HasRegisters c.counter
   -- the header is in the body and in the extent
   pub head : c.body header ≡ true

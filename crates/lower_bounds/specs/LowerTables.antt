@@ -113,7 +113,8 @@ pub record IsCalledSo (t : Text) (v : Values) (w : Stacks) (c : LowerCertificate
   pub calls : c.body a ≡ true → (c.quiet b ≡ true) × (c.adds a ≡ 0) × IsKeptBy t v w a b c.counter
 
 -- a step from a to b by an instruction that is no call
-pub record IsStepSo (v : Values) (w : Stacks) (c : LowerCertificate) (header : ℕ) (extent : ℕ → Bool) (trips a : ℕ) (i : Instr) (b : ℕ) : Type 0 where
+pub record IsStepSo (v : Values) (w : Stacks) (c : LowerCertificate) (header : ℕ) (extent : ℕ → Bool) (trips a : ℕ) (i : Instr) (b : ℕ)
+    : Type 0 where
   pub starts : b ≡ header → extent a ≡ false → IsNever v i a header ⊎ IsCountedOver v w i a header c.counter (arc 0 c.first)
   pub left : extent a ≡ true → extent b ≡ false → IsNever v i a b ⊎ IsLate v w c trips a i b
   pub effects : c.body a ≡ true → IsAdded v w c.counter a i (c.adds a)

@@ -47,19 +47,25 @@ pub fn check_keys(alloc: Global, place: Place, table: &Table, keys: &[&str]) -> 
     Ok(())
 }
 
-/// The number at a key, from `low` to `high`.
+/// The least and the greatest number that may stand at a key.
+#[derive(Clone, Copy)]
+pub struct Limits {
+    pub low: u64,
+    pub high: u64,
+}
+
+/// The number at a key, within these limits.
 pub fn number(
     alloc: Global,
     place: Place,
     table: &Table,
     key: &str,
-    low: u64,
-    high: u64,
+    limits: Limits,
 ) -> Result<u64, Stop>
-    ensures number { Answers (λ n. n) result (number (path place) (table_view table.now) low high key.now) }
-    ensures within { IfOk result (λ n. (low ≤ n) × (n ≤ high)) }
+    ensures number { Answers (λ n. n) result (number (path place) (table_view table.now) limits.low limits.high key.now) }
+    ensures within { IfOk result (λ n. (limits.low ≤ n) × (n ≤ limits.high)) }
 {
-    match number_at(table, key, low, high) {
+    match number_at(table, key, limits.low, limits.high) {
         Some(n) => Ok(n),
         None => Err(place.bad_value(alloc, key)),
     }
@@ -76,7 +82,11 @@ pub fn small_number(
     ensures number { Answers (λ n. n) result (number (path place) (table_view table.now) low 0xFFFF_FFFF key.now) }
     ensures within { IfOk result (λ n. low ≤ n) }
 {
-    Ok(number(alloc, place, table, key, u64::from(low), 0xFFFF_FFFF)? as u32)
+    let limits = Limits {
+        low: u64::from(low),
+        high: 0xFFFF_FFFF,
+    };
+    Ok(number(alloc, place, table, key, limits)? as u32)
 }
 
 fn version(alloc: Global, table: &Table) -> Result<u64, Stop>
@@ -85,14 +95,24 @@ fn version(alloc: Global, table: &Table) -> Result<u64, Stop>
     if find(table, "version").is_none() {
         return Err(Place::File.bad_key(alloc, "version"));
     }
-    number(alloc, Place::File, table, "version", 1, 2)
+    number(
+        alloc,
+        Place::File,
+        table,
+        "version",
+        Limits { low: 1, high: 2 },
+    )
 }
 
 fn cost(alloc: Global, table: &Table, key: &str) -> Result<u16, Stop>
     ensures cost { Answers (λ n. n) result (cost_at_key (table_view table.now) key.now) }
     ensures positive { IfOk result (λ n. 1 ≤ n) }
 {
-    Ok(number(alloc, Place::Cost, table, key, 1, 65535)? as u16)
+    let limits = Limits {
+        low: 1,
+        high: 65535,
+    };
+    Ok(number(alloc, Place::Cost, table, key, limits)? as u16)
 }
 
 #[tactic(auto, unfolding(crate::specs::Machine::costs_in))]
@@ -160,10 +180,21 @@ fn top_numbers(alloc: Global, version: u64, table: &Table) -> Result<TopNumbers,
             Place::File,
             table,
             "deadline",
-            1,
-            0x7FFF_FFFF_FFFF_FFFF,
+            Limits {
+                low: 1,
+                high: 0x7FFF_FFFF_FFFF_FFFF,
+            },
         )?,
-        steps: number(alloc, Place::File, table, "steps", 1, 1 << 40)?,
+        steps: number(
+            alloc,
+            Place::File,
+            table,
+            "steps",
+            Limits {
+                low: 1,
+                high: 1 << 40,
+            },
+        )?,
         min_gain: small_number(alloc, Place::File, table, "min_gain", 0)?,
         switch_time: switch_cost(alloc, version, table, "switch_time")?,
         switch_energy: switch_cost(alloc, version, table, "switch_energy")?,

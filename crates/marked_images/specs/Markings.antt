@@ -23,7 +23,8 @@ use Rattle.scale_base.specs.declared.edges.Edge.{Edge}
 use Rattle.marked_images.specs.Wanted.{Wanted, ChoosesSites, marked_where}
 
 -- the marks, the numbers under the stored weights, and the least cycles, all in range
-pub record IsMarking (power : PowerModel) (image : Image) (v : FlowGraph) (t : LoopView) (wanted : Wanted) (stored : Numbers) (least : Charged) (m : Marking) : Type 0 where
+pub record IsMarking (power : PowerModel) (image : Image) (v : FlowGraph) (t : LoopView) (wanted : Wanted) (stored : Numbers)
+    (least : Charged) (m : Marking) : Type 0 where
   pub code : IsGraphOf (text_of image) v
   pub tree : (extent : ℕ → ℕ → Bool) × IsLoopTree v extent t
   pub counters : m.counters ≡ counted_loops t

@@ -50,7 +50,8 @@ chosen_level power worst = starting_of power worst (slowest_of power worst)
 
 -- ---- the numbers
 
-pub record IsMarkedAt (power : PowerModel) (image : Image) (v : FlowGraph) (t : LoopView) (wanted : Wanted) (rule : BudgetRule) (stored : Numbers) (least : Charged) (m : Marking) (start : ℕ) : Type 0 where
+pub record IsMarkedAt (power : PowerModel) (image : Image) (v : FlowGraph) (t : LoopView) (wanted : Wanted) (rule : BudgetRule)
+    (stored : Numbers) (least : Charged) (m : Marking) (start : ℕ) : Type 0 where
   pub stored_are : AreNumbers (graph v) (loops v t) (stored_weights power image v (marked_where v t wanted)) stored
   pub least_are : AreCharged (graph v) (loops v t) (stored_weights power image v (marked_where v t wanted)) least
   pub marks : HasMarks v t wanted m.sites
@@ -61,7 +62,8 @@ pub record IsMarkedAt (power : PowerModel) (image : Image) (v : FlowGraph) (t : 
   pub budgets : (i : ℕ) → budget_at m.budgets i ≡ rule start (stored.worst 0) i
 
 -- too many cycles under the stored weights, or too late
-pub record IsUnfit (power : PowerModel) (image : Image) (v : FlowGraph) (t : LoopView) (wanted : Wanted) (stored : Numbers) (refusal : Refusal) : Type 0 where
+pub record IsUnfit (power : PowerModel) (image : Image) (v : FlowGraph) (t : LoopView) (wanted : Wanted) (stored : Numbers)
+    (refusal : Refusal) : Type 0 where
   pub stored_are : AreNumbers (graph v) (loops v t) (stored_weights power image v (marked_where v t wanted)) stored
   pub why : ((CYCLE_LIMIT < stored.worst 0) × (refusal ≡ TooLong)) ⊎
       ((stored.worst 0 ≤ CYCLE_LIMIT) × (slowest_of power (stored.worst 0) ≡ None) ×
@@ -73,7 +75,8 @@ IsMarkingFound power image v t wanted rule (Ok x) = (stored : Numbers) × (least
 IsMarkingFound power image v t wanted rule (Err refusal) = (stored : Numbers) × IsUnfit power image v t wanted stored refusal
 
 -- the graph and the loops of an image, whose counted loops can be counted, with its marking and its starting level
-pub record IsMarked (power : PowerModel) (image : Image) (notes : List LoopNote) (wanted : Wanted) (rule : BudgetRule) (m : Marked) : Type 0 where
+pub record IsMarked (power : PowerModel) (image : Image) (notes : List LoopNote) (wanted : Wanted) (rule : BudgetRule) (m : Marked)
+    : Type 0 where
   pub code_is : IsGraphOf (text_of image) m.graph
   pub tree_is : IsTreeOf m.graph notes m.tree
   pub counters : AreCounters m.graph m.tree (Ok (counted_loops m.tree))
@@ -82,7 +85,8 @@ pub record IsMarked (power : PowerModel) (image : Image) (notes : List LoopNote)
 -- ---- the stubs
 
 -- the marked instructions, in the form that their code is written from
-pub record AreStubsOf (power : PowerModel) (image : Image) (v : FlowGraph) (t : LoopView) (wanted : Wanted) (stored : Numbers) (least : Charged) (m : Marking) (stubs : List StubSite) : Type 0 where
+pub record AreStubsOf (power : PowerModel) (image : Image) (v : FlowGraph) (t : LoopView) (wanted : Wanted) (stored : Numbers)
+    (least : Charged) (m : Marking) (stubs : List StubSite) : Type 0 where
   pub few : length stubs ≤ WORD_LIMIT
   pub each : All IsSite stubs
   pub are : AreSitesOf image v.code (fragments_with power (test_of power m) image v t (marked_where v t wanted) stored least)
@@ -121,7 +125,8 @@ IsExtraFound power v t wanted (Err refusal) = ⊥
 -- ---- together
 
 -- what is stored of the program of an image besides its file
-pub record IsScaled (power : PowerModel) (image : Image) (notes : List LoopNote) (v : FlowGraph) (t : LoopView) (wanted : Wanted) (rule : BudgetRule) (s : Scaling) : Type 0 where
+pub record IsScaled (power : PowerModel) (image : Image) (notes : List LoopNote) (v : FlowGraph) (t : LoopView) (wanted : Wanted)
+    (rule : BudgetRule) (s : Scaling) : Type 0 where
   pub kinds : ChoosesSites v wanted.switch
   pub stored : Numbers
   pub extra : Numbers

@@ -51,7 +51,8 @@ by_deadline power start worst level = power.deadline
 
 -- The program of an image with these graph and loops, with the marks that are wanted and budgets by a rule: its worst cycles are in time from a starting level on, and it gets
 -- its stubs, unless one is out of reach.
-pub record IsStubbedProgram (power : PowerModel) (image : Image) (notes : List LoopNote) (v : FlowGraph) (t : LoopView) (wanted : Wanted) (rule : BudgetRule) (answer : Result (List ℕ × Summary) Refusal) : Type 0 where
+pub record IsStubbedProgram (power : PowerModel) (image : Image) (notes : List LoopNote) (v : FlowGraph) (t : LoopView) (wanted : Wanted)
+    (rule : BudgetRule) (answer : Result (List ℕ × Summary) Refusal) : Type 0 where
   pub stored : Numbers
   pub extra : Numbers
   pub least : Charged

@@ -56,7 +56,8 @@ pub fn marking_with(
     requires program { (image : Image) × (notes : List LoopNote) × IsGraphOf (text_of image) graph.now × IsTreeOf graph.now notes tree.now }
     requires counters { AreCounters graph.now tree.now (Ok marks.counters) }
     requires marks { (wanted : Wanted) × scalings.HasMarks graph.now tree.now wanted marks.sites }
-    ensures { (image : Image) (wanted : Wanted) → IsGraphOf (text_of image) graph.now → scalings.HasMarks graph.now tree.now wanted marks.sites →
+    ensures { (image : Image) (wanted : Wanted) → IsGraphOf (text_of image) graph.now →
+        scalings.HasMarks graph.now tree.now wanted marks.sites →
         AnswersBy (λ x. x) result (scalings.IsMarkingFound power.now image graph.now tree.now wanted (by_deadline power.now)) }
 {
     let weights = marks.sites.stored_weights(alloc, graph, &power.costs)?;

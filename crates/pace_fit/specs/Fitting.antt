@@ -22,7 +22,8 @@ IsProposed image machine loop_file proposal None = IsProposalPaced image machine
 -- ---- the choice where some input counts
 
 -- what is given of each candidate: by `hold`, and of each proposal
-pub record AreCandidates (image machine loop_file : List ℕ) (proposals : List Proposal) (given : ℕ → Option (List ℕ × Summary)) : Type 0 where
+pub record AreCandidates (image machine loop_file : List ℕ) (proposals : List Proposal) (given : ℕ → Option (List ℕ × Summary))
+    : Type 0 where
   pub held : (stored : List ℕ) × (summary : Summary) × (given 0 ≡ Some ((stored, summary))) ×
       IsHeld image machine loop_file (Ok ((stored, summary)))
   pub proposed : (k : ℕ) (proposal : Proposal) → slice_get proposals k ≡ Some proposal →
@@ -34,7 +35,8 @@ Gives given (Ok made) = given ≡ Some made
 Gives given (Err refusal) = given ≡ None
 
 -- the candidate that isn't out and takes the least energy on these inputs, of several the first
-pub record IsCheapestFit (image machine loop_file : List ℕ) (inputs : List (List ℕ)) (proposals : List Proposal) (c : ℕ) (stored : List ℕ) (summary : Summary) (energy : ℕ) : Type 0 where
+pub record IsCheapestFit (image machine loop_file : List ℕ) (inputs : List (List ℕ)) (proposals : List Proposal) (c : ℕ) (stored : List ℕ)
+    (summary : Summary) (energy : ℕ) : Type 0 where
   pub given : ℕ → Option (List ℕ × Summary)
   pub candidates : AreCandidates image machine loop_file proposals given
   pub cheapest : IsCheapestOf (λ k answer. Gives (given k) answer) machine inputs (length proposals + 1) c stored summary energy
@@ -47,7 +49,8 @@ AreOut image machine loop_file proposals n = (k : ℕ) (proposal : Proposal) →
     IsProposed image machine loop_file proposal None
 
 -- the image of proposal c - 1, before which all are out
-pub record IsBuilt (image machine loop_file : List ℕ) (proposals : List Proposal) (c : ℕ) (stored : List ℕ) (summary : Summary) : Type 0 where
+pub record IsBuilt (image machine loop_file : List ℕ) (proposals : List Proposal) (c : ℕ) (stored : List ℕ) (summary : Summary)
+    : Type 0 where
   pub k : ℕ
   pub proposal : Proposal
   pub number : c ≡ k + 1
@@ -56,7 +59,8 @@ pub record IsBuilt (image machine loop_file : List ℕ) (proposals : List Propos
   pub before : AreOut image machine loop_file proposals k
 
 -- the image that `hold` stores, where all proposals are out
-pub record IsHeldOnly (image machine loop_file : List ℕ) (proposals : List Proposal) (c : ℕ) (stored : List ℕ) (summary : Summary) : Type 0 where
+pub record IsHeldOnly (image machine loop_file : List ℕ) (proposals : List Proposal) (c : ℕ) (stored : List ℕ) (summary : Summary)
+    : Type 0 where
   pub number : c ≡ 0
   pub held : IsHeld image machine loop_file (Ok ((stored, summary)))
   pub out : AreOut image machine loop_file proposals (length proposals)
@@ -103,7 +107,8 @@ IsRewriteEnergy image machine loop_file inputs energy = (made : Result (List ℕ
     IsRewritten image machine loop_file made × HasEnergyIfAny machine inputs made energy
 
 -- the stored image and the numbers of the choice
-pub record IsFitted (image machine loop_file : List ℕ) (given : List (List ℕ)) (proposals : List Proposal) (stored : List ℕ) (fitted : Fitted) : Type 0 where
+pub record IsFitted (image machine loop_file : List ℕ) (given : List (List ℕ)) (proposals : List Proposal) (stored : List ℕ)
+    (fitted : Fitted) : Type 0 where
   pub chosen : IsChosen image machine loop_file (counting image machine loop_file given) proposals fitted.candidate stored fitted.summary
       fitted.energy
   pub hold : IsHoldEnergy image machine loop_file (counting image machine loop_file given) fitted.hold_energy

@@ -137,7 +137,8 @@ pub fn choose<P: Progress>(
     requires prepared { IsPrepared given.now.image.now given.now.machine.now given.now.loops.now
         (map (λ input. input.items) given.now.inputs.now) prepared.now }
     requires proposals { length proposals.now ≤ 64 }
-    ensures fitted { IfOk result (λ fitted. IsFitted given.now.image.now given.now.machine.now given.now.loops.now (map (λ input. input.items) given.now.inputs.now)
+    ensures fitted { IfOk result
+        (λ fitted. IsFitted given.now.image.now given.now.machine.now given.now.loops.now (map (λ input. input.items) given.now.inputs.now)
         proposals.now fitted.0.items fitted.1) }
 
     // The choice never takes more than the image that runs at one level.

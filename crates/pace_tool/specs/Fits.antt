@@ -20,7 +20,8 @@ IsSafeIfAny image machine loops (Ok given) = IsFittedSafely image machine loops 
 IsSafeIfAny image machine loops (Err refusal) = Unit {0}
 
 -- what `fit` gives of proposals: the choice among their images and that of `hold`, which is safe, or the refusal of `hold`
-pub record Fits (image machine loops : List ℕ) (inputs : List (List ℕ)) (proposals : List Proposal) (given : Result (List ℕ × Fitted) Refusal) : Type 0 where
+pub record Fits (image machine loops : List ℕ) (inputs : List (List ℕ)) (proposals : List Proposal)
+    (given : Result (List ℕ × Fitted) Refusal) : Type 0 where
   pub fitting : IsFitting image machine loops inputs proposals given
   pub safe : IsSafeIfAny image machine loops given
 

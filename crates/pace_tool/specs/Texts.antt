@@ -59,7 +59,8 @@ proposal_lines None = []
 
 -- the switches of a candidate: the image of `hold`, which is candidate 0, has none, and candidate k + 1 has those of proposal k
 unfoldable pub switches_text : List Proposal → ℕ → List ℕ
-switches_text proposals candidate = if candidate == 0 then codes "no switches: hold's image is stored\n" else proposal_lines (slice_get proposals (candidate - 1))
+switches_text proposals candidate =
+    if candidate == 0 then codes "no switches: hold's image is stored\n" else proposal_lines (slice_get proposals (candidate - 1))
 
 -- the chosen candidate: its summary, how many inputs count and how many don't, why each of those doesn't, the energy of the choice, of the image that runs at one level and of the
 -- one that `rewrite` stores, the least energy of the inputs that count, its switches and its tallied loops

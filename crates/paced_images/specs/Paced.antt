@@ -49,7 +49,8 @@ paced_rule power share start worst = paced_budget power start worst share
 -- ---- what the program of an image and its loops give
 
 -- the worst cycles under the stored weights are more than 2^48
-pub record IsTooLong (power : PowerModel) (image : Image) (notes : List LoopNote) (wanted : List SwitchSite) (tallied : List ℕ) (answer : Result (List ℕ × Summary) Refusal) : Type 0 where
+pub record IsTooLong (power : PowerModel) (image : Image) (notes : List LoopNote) (wanted : List SwitchSite) (tallied : List ℕ)
+    (answer : Result (List ℕ × Summary) Refusal) : Type 0 where
   pub code : FlowGraph
   pub tree : LoopView
   pub stored : Numbers
@@ -58,7 +59,8 @@ pub record IsTooLong (power : PowerModel) (image : Image) (notes : List LoopNote
   pub answer_is : answer ≡ Err TooLong
 
 -- they are in range, and even at the fastest level too late
-pub record IsTooLate (power : PowerModel) (image : Image) (notes : List LoopNote) (wanted : List SwitchSite) (tallied : List ℕ) (answer : Result (List ℕ × Summary) Refusal) : Type 0 where
+pub record IsTooLate (power : PowerModel) (image : Image) (notes : List LoopNote) (wanted : List SwitchSite) (tallied : List ℕ)
+    (answer : Result (List ℕ × Summary) Refusal) : Type 0 where
   pub code : FlowGraph
   pub tree : LoopView
   pub stored : Numbers
@@ -68,7 +70,8 @@ pub record IsTooLate (power : PowerModel) (image : Image) (notes : List LoopNote
   pub answer_is : answer ≡ Err (DeadlineMissed (time_at power (fastest power) (stored.worst 0)) power.deadline)
 
 -- they are in time from a starting level on: the program gets its stubs, unless one is out of reach
-pub record IsProgramPaced (power : PowerModel) (image : Image) (notes : List LoopNote) (wanted : List SwitchSite) (tallied : List ℕ) (share : ℕ) (answer : Result (List ℕ × Summary) Refusal) : Type 0 where
+pub record IsProgramPaced (power : PowerModel) (image : Image) (notes : List LoopNote) (wanted : List SwitchSite) (tallied : List ℕ)
+    (share : ℕ) (answer : Result (List ℕ × Summary) Refusal) : Type 0 where
   pub code : FlowGraph
   pub tree : LoopView
   pub stored : Numbers

@@ -25,7 +25,8 @@ IsMarkedFound power image notes sites tallied share (Ok m) = IsMarkedAs power im
 IsMarkedFound power image notes sites tallied share (Err refusal) = IsPacedProgram power image notes sites tallied share (Err refusal)
 
 -- what the bytes of an image, of a machine file and of a loop file are, with the marks and the stubs of the program
-pub record IsProgramFrom (image machine loop_file : List ℕ) (sites : List SwitchSite) (counted : Bool) (tallied : List ℕ) (share : ℕ) (p : Program) : Type 0 where
+pub record IsProgramFrom (image machine loop_file : List ℕ) (sites : List SwitchSite) (counted : Bool) (tallied : List ℕ) (share : ℕ)
+    (p : Program) : Type 0 where
   pub power_is : read_machine machine ≡ Ok p.power
   pub in_range : IsPowerModel p.power
   pub view_is : image_of image ≡ Ok p.view

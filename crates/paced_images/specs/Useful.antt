@@ -149,7 +149,8 @@ abbrev pub Marks : Type 0
 Marks = List SwitchSite × List ℕ
 
 -- the sites and the tallied loops that are of use, by the numbers of the program with all of them
-pub record AreKept (image machine loop_file : List ℕ) (wanted : List SwitchSite) (counted : Bool) (tallied : List ℕ) (share : ℕ) (kept : Marks) : Type 0 where
+pub record AreKept (image machine loop_file : List ℕ) (wanted : List SwitchSite) (counted : Bool) (tallied : List ℕ) (share : ℕ)
+    (kept : Marks) : Type 0 where
   pub power : PowerModel
   pub original : Image
   pub notes : List LoopNote

@@ -37,7 +37,8 @@ fn wanted_marks(
 ) -> Result<Sites, NoMemory>
     requires program { (image : Image) × (notes : List LoopNote) × IsGraphOf (text_of image) graph.now × IsTreeOf graph.now notes tree.now }
     requires counters { AreCounters graph.now tree.now (Ok counters.now) }
-    ensures { IfOk result (λ marks. HasMarks graph.now tree.now (wanted_of graph.now tree.now chosen.now.sites.now chosen.now.tallied.now) marks) }
+    ensures { IfOk result (λ marks. HasMarks graph.now tree.now
+        (wanted_of graph.now tree.now chosen.now.sites.now chosen.now.tallied.now) marks) }
 {
     let flags = wanted_flags(alloc, graph, chosen.sites)?;
     let marks = choose_where(alloc, graph, tree, counters, &flags)?;
@@ -56,7 +57,8 @@ pub fn marked_of(
 ) -> Result<Marked, Stop>
     requires image { image_of view.now.file ≡ Ok view.now }
     requires power { IsPowerModel power.now }
-    ensures { AnswersBy (λ m. m) result (IsMarkedFound power.now view.now notes.now chosen.now.sites.now chosen.now.tallied.now chosen.now.share) }
+    ensures { AnswersBy (λ m. m) result (IsMarkedFound power.now view.now notes.now
+        chosen.now.sites.now chosen.now.tallied.now chosen.now.share) }
 {
     let graph = build_graph(alloc, view)?;
     let tree = build_loops(alloc, &graph, notes)?;

@@ -29,7 +29,8 @@ IsSwitchInBudget power budget g l w n counts e tail gone i j =
     (rest g l n e + tail - gone + (slack g l n (cost g n w) e + left_behind g l n counts e)) * period power i + budget j
 
 -- a lower level that an edge within a function may lead to
-pub record IsChosenWithin (power : PowerModel) (budget : ℕ → ℕ) (g : Graph) (l : Loops) (w : ℕ → ℕ) (n : Numbers) (least : Charged) (counts : ℕ → ℕ) (e tail i j : ℕ) : Type 0 where
+pub record IsChosenWithin (power : PowerModel) (budget : ℕ → ℕ) (g : Graph) (l : Loops) (w : ℕ → ℕ) (n : Numbers) (least : Charged)
+    (counts : ℕ → ℕ) (e tail i j : ℕ) : Type 0 where
   pub lower : j < i
   pub inside : g.callee e ≡ None
   pub target : ℕ
@@ -42,7 +43,8 @@ pub record IsChosenWithin (power : PowerModel) (budget : ℕ → ℕ) (g : Graph
 
 -- The marks on each edge store the level that was there, or one that may be chosen, as long as the counters of the loops round the edge's source hold their counts, within the
 -- bounds.
-pub record AreTablesWithin (power : PowerModel) (budget : ℕ → ℕ) (t : Text) (code : Code) (l : Loops) (sites : List Site) (is_of : ℕ → ℕ → Bool) (n : Numbers) (least : Charged) : Type 0 where
+pub record AreTablesWithin (power : PowerModel) (budget : ℕ → ℕ) (t : Text) (code : Code) (l : Loops) (sites : List Site)
+    (is_of : ℕ → ℕ → Bool) (n : Numbers) (least : Charged) : Type 0 where
   pub chosen : (e : ℕ) (class : Class) → e < (text_graph t code).edges → edge_class t (slice_get code.edges e) ≡ Some class →
       (h : Shadow) (counts : ℕ → ℕ) (j : ℕ) → h.level < length power.levels → AreWithin l counts
       → ((w k : ℕ) → is_of w k ≡ true → l.inside k ((text_graph t code).source e) ≡ true → h.counters w ≡ counts k)

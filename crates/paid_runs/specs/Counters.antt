@@ -34,13 +34,15 @@ pub record AreCounted (t : Text) (code : Code) (l : Loops) (sites : List Site) (
       → counters_behind (fragments_of_class (place_at sites (edge_at (slice_get code.edges e))) class) c w ≡ c w
 
 -- A counter of a loop that a run is in holds the loop's count, and every other counter is 0.
-pub record AreCounting (t : Text) (code : Code) (l : Loops) (is_of : ℕ → ℕ → Bool) (sites : List Site) (start : ℕ) (r : Run) (moves : List steps.Transition) : Type 0 where
+pub record AreCounting (t : Text) (code : Code) (l : Loops) (is_of : ℕ → ℕ → Bool) (sites : List Site) (start : ℕ) (r : Run)
+    (moves : List steps.Transition) : Type 0 where
   pub shown : (w k : ℕ) → is_of w k ≡ true → AreShown l (λ j. j == k) (after_transitions t code l moves)
       (λ j. (shadow_after sites (shadow_first start) r.steps).counters w)
   pub others : (w : ℕ) → ((k : ℕ) → is_of w k ≡ true → ⊥) → (shadow_after sites (shadow_first start) r.steps).counters w ≡ 0
 
 -- The patched image follows the original, whose run is a list of kept moves; and as long as the run goes on the counters hold the counts.
-pub record IsKeptPatched (image patched : Image) (levels : ℕ) (sites : List Site) (start : ℕ) (input : List ℕ) (code : Code) (l : Loops) (is_of : ℕ → ℕ → Bool) (costs : Class → ℕ) (n : ℕ) (c : Carried) : Type 0 where
+pub record IsKeptPatched (image patched : Image) (levels : ℕ) (sites : List Site) (start : ℕ) (input : List ℕ) (code : Code) (l : Loops)
+    (is_of : ℕ → ℕ → Bool) (costs : Class → ℕ) (n : ℕ) (c : Carried) : Type 0 where
   pub kept : IsKeptRun (text_of image) code l costs (run_of image levels input n) c
   pub followed : IsFollowed image patched levels sites start input n
   pub counting : (run_of image levels input n).standing ≡ GoesOn → AreCounting (text_of image) code l is_of sites start

@@ -55,7 +55,8 @@ AreLimits l counted word limits = (k : ℕ) → k < l.loops → counted k ≡ tr
 -- ---- kept runs
 
 -- The counter of each counted loop that a run is in holds the loop's count, and every other counter of a loop is 0.
-pub record AreHeld (t : Text) (code : Code) (l : Loops) (counted : ℕ → Bool) (word : ℕ → ℕ) (sites : List Site) (start : ℕ) (r : Run) (moves : List steps.Transition) : Type 0 where
+pub record AreHeld (t : Text) (code : Code) (l : Loops) (counted : ℕ → Bool) (word : ℕ → ℕ) (sites : List Site) (start : ℕ) (r : Run)
+    (moves : List steps.Transition) : Type 0 where
   pub shown : AreShown l counted (after_transitions t code l moves) (λ k. (shadow_after sites (shadow_first start) r.steps).counters
       (word k))
   -- a word that is no loop's is 0
@@ -63,7 +64,8 @@ pub record AreHeld (t : Text) (code : Code) (l : Loops) (counted : ℕ → Bool)
       (shadow_after sites (shadow_first start) r.steps).counters w ≡ 0
 
 -- The stored image follows the original, whose run is a list of kept moves; and as long as the run goes on the counters hold the counts.
-pub record IsKeptFollowed (image stored : Image) (levels : ℕ) (sites : List Site) (start : ℕ) (input : List ℕ) (code : Code) (l : Loops) (counted : ℕ → Bool) (word : ℕ → ℕ) (costs : Class → ℕ) (n : ℕ) (c : Carried) : Type 0 where
+pub record IsKeptFollowed (image stored : Image) (levels : ℕ) (sites : List Site) (start : ℕ) (input : List ℕ) (code : Code) (l : Loops)
+    (counted : ℕ → Bool) (word : ℕ → ℕ) (costs : Class → ℕ) (n : ℕ) (c : Carried) : Type 0 where
   pub kept : IsKeptRun (text_of image) code l costs (run_of image levels input n) c
   pub followed : IsFollowed image stored levels sites start input n
   pub held : (run_of image levels input n).standing ≡ GoesOn → AreHeld (text_of image) code l counted word sites start

@@ -52,7 +52,8 @@ pub record IsBudgeted (power : PowerModel) (budget : ℕ → ℕ) (image patched
   pub budgets : AreBudgets power budget start (n.worst 0)
 
 -- what a run of it is, whose original is kept up to a step
-pub record IsTunedRun (power : PowerModel) (image patched : Image) (sites : List Site) (start : ℕ) (code : Code) (l : Loops) (is_of : ℕ → ℕ → Bool) (n more : Numbers) (input : List ℕ) (steps : ℕ) (c : Carried) : Type 0 where
+pub record IsTunedRun (power : PowerModel) (image patched : Image) (sites : List Site) (start : ℕ) (code : Code) (l : Loops)
+    (is_of : ℕ → ℕ → Bool) (n more : Numbers) (input : List ℕ) (steps : ℕ) (c : Carried) : Type 0 where
   pub followed : IsKeptPatched image patched (length power.levels) sites start input code l is_of (costs_of power) steps c
   pub paid : IsPaidRun power (text_of image) code l sites start n followed.kept.moves
       (run_of patched (length power.levels) input followed.followed.after).steps
@@ -73,4 +74,5 @@ pub record IsTunedRun (power : PowerModel) (image patched : Image) (sites : List
   pub time : (price power start (run_of patched (length power.levels) input followed.followed.after).steps).time ≤ power.deadline
   pub falls : NeverRises start (run_of patched (length power.levels) input followed.followed.after).steps
   pub energy : (status : ℕ) → (run_of image (length power.levels) input steps).standing ≡ HasExited status
-      → let numbers = price power start (run_of patched (length power.levels) input followed.followed.after).steps in numbers.energy ≤ held_energy power numbers
+      → let numbers = price power start (run_of patched (length power.levels) input followed.followed.after).steps in
+      numbers.energy ≤ held_energy power numbers

@@ -38,7 +38,8 @@ abbrev pub IsSafeEntry : PowerModel → EdgeNumbers → (i j : ℕ) → Type 0
 IsSafeEntry power told i j = IsEntryBy (meets_both power) told i j
 
 -- the table behind a loop that its counter counts: a row for each count up to the bound
-pub record AreRowsBy (power : PowerModel) (meets : EdgeNumbers → ℕ → ℕ → Bool) (g : Graph) (l : Loops) (n : Numbers) (told : EdgeNumbers) (is_of : ℕ → ℕ → Bool) (e counter shift : ℕ) (rows : List ℕ) : Type 0 where
+pub record AreRowsBy (power : PowerModel) (meets : EdgeNumbers → ℕ → ℕ → Bool) (g : Graph) (l : Loops) (n : Numbers) (told : EdgeNumbers)
+    (is_of : ℕ → ℕ → Bool) (e counter shift : ℕ) (rows : List ℕ) : Type 0 where
   pub loop : ℕ
   pub low : loop < l.loops
   pub counts : is_of counter loop ≡ true
@@ -52,7 +53,8 @@ abbrev pub AreAllLowest : PowerModel → (EdgeNumbers → ℕ → ℕ → Bool) 
 AreAllLowest power meets told = (i : ℕ) → i < length power.levels → IsEntryBy meets told i 0
 
 -- On a back edge of a loop that its counter counts: with each count with which it stores, the lowest level is an entry behind the turns that are then taken.
-pub record IsTallyBy (power : PowerModel) (meets : EdgeNumbers → ℕ → ℕ → Bool) (g : Graph) (l : Loops) (n : Numbers) (told : EdgeNumbers) (is_of : ℕ → ℕ → Bool) (e counter shift from : ℕ) : Type 0 where
+pub record IsTallyBy (power : PowerModel) (meets : EdgeNumbers → ℕ → ℕ → Bool) (g : Graph) (l : Loops) (n : Numbers) (told : EdgeNumbers)
+    (is_of : ℕ → ℕ → Bool) (e counter shift from : ℕ) : Type 0 where
   pub loop : ℕ
   pub low : loop < l.loops
   pub counts : is_of counter loop ≡ true
@@ -71,7 +73,8 @@ IsTableBy power meets g l n told is_of e (Lowest down) = down ≡ true → AreAl
 IsTableBy power meets g l n told is_of e (Tally counter shift from) = IsTallyBy power meets g l n told is_of e counter shift from
 
 -- an edge within a function, with the table of its first fragment
-pub record IsEdgeWithTable (power : PowerModel) (meets : EdgeNumbers → ℕ → ℕ → Bool) (g : Graph) (l : Loops) (w : ℕ → ℕ) (n : Numbers) (least : Charged) (is_of : ℕ → ℕ → Bool) (e tail : ℕ) (f : Fragment) : Type 0 where
+pub record IsEdgeWithTable (power : PowerModel) (meets : EdgeNumbers → ℕ → ℕ → Bool) (g : Graph) (l : Loops) (w : ℕ → ℕ) (n : Numbers)
+    (least : Charged) (is_of : ℕ → ℕ → Bool) (e tail : ℕ) (f : Fragment) : Type 0 where
   pub inside : g.callee e ≡ None
   pub target : ℕ
   pub leads : g.target e ≡ Some target

@@ -39,7 +39,8 @@ IsPaying power g l least e tail i j = (z : ℕ) × (to_end_after g l least e ≡
     (switch_energy power i j ≤ (z + tail) * (energy power i - energy power j))
 
 -- a lower level that an edge within a function may lead to
-pub record IsChosen (power : PowerModel) (g : Graph) (l : Loops) (w : ℕ → ℕ) (n : Numbers) (least : Charged) (counts : ℕ → ℕ) (e tail i j : ℕ) : Type 0 where
+pub record IsChosen (power : PowerModel) (g : Graph) (l : Loops) (w : ℕ → ℕ) (n : Numbers) (least : Charged) (counts : ℕ → ℕ)
+    (e tail i j : ℕ) : Type 0 where
   pub lower : j < i
   pub inside : g.callee e ≡ None
   pub target : ℕ
@@ -52,7 +53,8 @@ pub record IsChosen (power : PowerModel) (g : Graph) (l : Loops) (w : ℕ → �
 
 -- The marks on each edge store the level that was there, or one that may be chosen, as long as the counters of the loops round the edge's source hold
 -- their counts, within the bounds.
-pub record AreTables (power : PowerModel) (t : Text) (code : Code) (l : Loops) (sites : List Site) (counted : ℕ → Bool) (word : ℕ → ℕ) (n : Numbers) (least : Charged) : Type 0 where
+pub record AreTables (power : PowerModel) (t : Text) (code : Code) (l : Loops) (sites : List Site) (counted : ℕ → Bool) (word : ℕ → ℕ)
+    (n : Numbers) (least : Charged) : Type 0 where
   pub chosen : (e : ℕ) (class : Class) → e < (text_graph t code).edges → edge_class t (slice_get code.edges e) ≡ Some class →
       (h : Shadow) (counts : ℕ → ℕ) (j : ℕ) → h.level < length power.levels → AreWithin l counts
       → ((k : ℕ) → k < l.loops → counted k ≡ true → l.inside k ((text_graph t code).source e) ≡ true → h.counters (word k) ≡ counts k)
@@ -61,7 +63,8 @@ pub record AreTables (power : PowerModel) (t : Text) (code : Code) (l : Loops) (
       (tail_cycles (costs_of power) (fragments_of_class (place_at sites (edge_at (slice_get code.edges e))) class)) h.level j
 
 -- The same where a loop may have several counters: `is_of w k` tells that the word w counts loop k.
-pub record AreTablesOf (power : PowerModel) (t : Text) (code : Code) (l : Loops) (sites : List Site) (is_of : ℕ → ℕ → Bool) (n : Numbers) (least : Charged) : Type 0 where
+pub record AreTablesOf (power : PowerModel) (t : Text) (code : Code) (l : Loops) (sites : List Site) (is_of : ℕ → ℕ → Bool) (n : Numbers)
+    (least : Charged) : Type 0 where
   pub chosen : (e : ℕ) (class : Class) → e < (text_graph t code).edges → edge_class t (slice_get code.edges e) ≡ Some class →
       (h : Shadow) (counts : ℕ → ℕ) (j : ℕ) → h.level < length power.levels → AreWithin l counts
       → ((w k : ℕ) → is_of w k ≡ true → l.inside k ((text_graph t code).source e) ≡ true → h.counters w ≡ counts k)
@@ -71,7 +74,8 @@ pub record AreTablesOf (power : PowerModel) (t : Text) (code : Code) (l : Loops)
 
 -- What the steps of a stored run cost, whose moves are those of the original: its cycles are those under the stored weights; no step leaves a higher level; the
 -- time so far, and the cycles left at the level that it has, are in time; and after an exit each switch has saved what it took.
-pub record IsPaidRun (power : PowerModel) (t : Text) (code : Code) (l : Loops) (sites : List Site) (start : ℕ) (n : Numbers) (moves : List steps.Transition) (run : List Stepped) : Type 0 where
+pub record IsPaidRun (power : PowerModel) (t : Text) (code : Code) (l : Loops) (sites : List Site) (start : ℕ) (n : Numbers)
+    (moves : List steps.Transition) (run : List Stepped) : Type 0 where
   pub cycles : (price power start run).cycles ≡ steps.cycles (weights_of power t code sites) moves
   pub is_level : (price power start run).level < length power.levels
   pub falls : NeverRises start run

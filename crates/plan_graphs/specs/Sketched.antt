@@ -61,7 +61,8 @@ AreCountedBy v t None = (refusal : Refusal) × AreCounters v t (Err refusal)
 AreCountedBy v t (Some counted) = AreCounters v t (Ok counted)
 
 -- these are the numbers, the marks and the counts that are kept
-pub record HoldsTold (v : FlowGraph) (t : LoopView) (n : WorstView) (marked : Option Marked) (walk : Option WalkCounts) (told : Told) : Type 0 where
+pub record HoldsTold (v : FlowGraph) (t : LoopView) (n : WorstView) (marked : Option Marked) (walk : Option WalkCounts) (told : Told)
+    : Type 0 where
   pub rest : (e : ℕ) → e < length v.code.edges → slice_get n.rests e ≡ Some (rest_at (graph v) (loops v t) told.numbers e)
   pub context : (f : ℕ) → f < length v.code.functions → slice_get n.context f ≡ Some (told.numbers.context f)
   pub worst : (f : ℕ) → f < length v.code.functions → slice_get n.worst f ≡ Some (told.numbers.worst f)

@@ -16,7 +16,8 @@ use Rattle.plan_texts.specs.Words.{name_line, opened_function, opened, closed, l
 
 unfoldable pub function_words : DrawnFunction → List ℕ
 function_words f =
-    name_line f.name ++ address f.entry ++ codes "\\lworst " ++ decimal f.worst ++ codes " cycles, called " ++ decimal f.calls ++ codes "x\\l"
+    name_line f.name ++ address f.entry ++ codes "\\lworst " ++ decimal f.worst ++ codes " cycles, called " ++ decimal f.calls
+    ++ codes "x\\l"
 
 abbrev pub function_style : List ℕ
 function_style = codes "style=\"filled,rounded\" fillcolor=\"#f6f8fa\" color=\"#d0d7de\" "
@@ -26,7 +27,8 @@ function_line f = opened_function f.number ++ function_style ++ codes "label=\""
 
 unfoldable pub loop_words : DrawnLoop → List ℕ
 loop_words l =
-    codes "style=\"filled,rounded\" fillcolor=\"#0969da14\" color=\"#0969da55\" label=\"loop " ++ decimal (l.number + 1) ++ codes " at " ++ address l.header
+    codes "style=\"filled,rounded\" fillcolor=\"#0969da14\" color=\"#0969da55\" label=\"loop " ++ decimal (l.number + 1) ++ codes " at "
+    ++ address l.header
     ++ codes "\\lbound " ++ decimal l.bound ++ codes ", turn " ++ decimal l.turn ++ codes " cycles\\l\" "
 
 unfoldable pub loop_line : DrawnLoop → List ℕ
@@ -37,7 +39,8 @@ loop_line l = opened l.function l.around.items ++ loop_words l ++ closed l.aroun
 -- A block by the address where it begins, with further words.
 unfoldable pub block_words : DrawnBlock → List ℕ
 block_words b =
-    codes "b" ++ address b.range.from ++ codes " [label=\"" ++ name_line b.name ++ address b.range.from ++ codes " to " ++ address b.range.to
+    codes "b" ++ address b.range.from ++ codes " [label=\"" ++ name_line b.name ++ address b.range.from ++ codes " to "
+    ++ address b.range.to
     ++ codes "\\lleft " ++ decimal b.left ++ codes "\\l" ++ flat_map (λ e. end_line e.leads) b.edges.items
 
 unfoldable pub block_line : (more : List ℕ) → DrawnBlock → List ℕ
@@ -55,8 +58,10 @@ is_taken e = nat_lt 0 e.taken
 
 unfoldable pub edge_style : DrawnEdge → List ℕ
 edge_style e =
-    codes " [style=\"" ++ line_style e.edge.kind ++ codes "\" arrowhead=\"" ++ arrow_head e.edge.kind ++ codes "\" color=\"" ++ line_color (is_marked e) (is_taken e)
-    ++ codes "\" fontcolor=\"" ++ line_color (is_marked e) (is_taken e) ++ codes "\" penwidth=\"" ++ line_width (is_taken e) ++ codes "\" label=\""
+    codes " [style=\"" ++ line_style e.edge.kind ++ codes "\" arrowhead=\"" ++ arrow_head e.edge.kind ++ codes "\" color=\""
+    ++ line_color (is_marked e) (is_taken e)
+    ++ codes "\" fontcolor=\"" ++ line_color (is_marked e) (is_taken e) ++ codes "\" penwidth=\"" ++ line_width (is_taken e)
+    ++ codes "\" label=\""
 
 unfoldable pub edge_to : (from to : ℕ) → DrawnEdge → List ℕ
 edge_to from to e = arrow from to ++ edge_style e ++ flat_map mark_line e.marks.items ++ times_line e.taken ++ codes "\"]\n"
@@ -68,7 +73,8 @@ edge_line from e = elim e.leads [ leads.Block to ↦ edge_to from to e | leads.R
 -- ---- calls, as arrows or as words of the block that calls
 
 unfoldable pub call_to : (from to : ℕ) → Bool → List ℕ
-call_to from to taken = arrow from to ++ codes " [style=\"dashed\" arrowhead=\"open\" color=\"#8250df\" penwidth=\"" ++ line_width taken ++ codes "\"]\n"
+call_to from to taken =
+    arrow from to ++ codes " [style=\"dashed\" arrowhead=\"open\" color=\"#8250df\" penwidth=\"" ++ line_width taken ++ codes "\"]\n"
 
 abbrev pub call_line : (from : ℕ) → Bool → Option DrawnCall → List ℕ
 call_line from taken None = []
@@ -103,7 +109,8 @@ function_node f =
 
 -- a call, with how often the edges behind it are taken: so often the walk calls there
 unfoldable pub function_arrow : (from to times : ℕ) → List ℕ
-function_arrow from to times = codes "f" ++ decimal from ++ codes " -> f" ++ decimal to ++ codes " [label=\" " ++ decimal times ++ codes "x\"]\n"
+function_arrow from to times =
+    codes "f" ++ decimal from ++ codes " -> f" ++ decimal to ++ codes " [label=\" " ++ decimal times ++ codes "x\"]\n"
 
 abbrev pub function_call : (from times : ℕ) → Option DrawnCall → List ℕ
 function_call from times None = []

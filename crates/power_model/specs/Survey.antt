@@ -21,7 +21,15 @@ pub record Surveyed : Type 0 where
   pub same : Bool
 
 abbrev pub line_view : SurveyLine → Surveyed
-line_view l = record { end = l.end; kept = l.kept; paid = l.meter; scaled_end = l.scaled_end; scaled_paid = l.scaled_meter; held = l.held; same = l.same }
+line_view l = record {
+  end = l.end;
+  kept = l.kept;
+  paid = l.meter;
+  scaled_end = l.scaled_end;
+  scaled_paid = l.scaled_meter;
+  held = l.held;
+  same = l.same;
+}
 
 -- A line for each input, the most of each loop, and the totals.
 pub record Survey : Type 0 where

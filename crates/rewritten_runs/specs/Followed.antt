@@ -37,7 +37,8 @@ pub record ShowsCounts (v : FlowGraph) (t : LoopView) (place : steps.GraphState)
       is_within_loop (loops v t) k place ≡ true → counter_of t k ≢ w) → slice_index window w ≡ 0
 
 -- the stored run after so many steps meets the original after n: n of its steps were fetched outside the keyed segment
-pub record IsMeeting (original stored : Image) (levels : ℕ) (v : FlowGraph) (t : LoopView) (input : List ℕ) (n : ℕ) (c : Carried) (after : ℕ) : Type 0 where
+pub record IsMeeting (original stored : Image) (levels : ℕ) (v : FlowGraph) (t : LoopView) (input : List ℕ) (n : ℕ) (c : Carried)
+    (after : ℕ) : Type 0 where
   pub goes_on : (run_of stored levels input after).standing ≡ GoesOn
   pub text : length (text_steps (run_of stored levels input after).steps) ≡ n
   pub states : Meets (layout_of stored) (run_of original levels input n).state (run_of stored levels input after).state
@@ -47,7 +48,8 @@ pub record IsMeeting (original stored : Image) (levels : ℕ) (v : FlowGraph) (t
 
 -- After n kept steps, if the run goes on: the two meet once, at most so many steps later. The time so far, and the cycles left at the level that the stored run has, are
 -- in time.
-pub record MeetsInTime (power : PowerModel) (original stored : Image) (v : FlowGraph) (t : LoopView) (w : ℕ → ℕ) (numbers : Numbers) (bound : ℕ) (input : List ℕ) (n : ℕ) (c : Carried) : Type 0 where
+pub record MeetsInTime (power : PowerModel) (original stored : Image) (v : FlowGraph) (t : LoopView) (w : ℕ → ℕ) (numbers : Numbers)
+    (bound : ℕ) (input : List ℕ) (n : ℕ) (c : Carried) : Type 0 where
   pub after : ℕ
   pub from : n ≤ after
   pub to : after ≤ n + bound
@@ -98,7 +100,8 @@ pub record EndsInTime (power : PowerModel) (original stored : Image) (bound : �
 -- ---- all together
 
 -- on every input, for every number of steps up to which the original run is kept
-pub record FollowsInTime (power : PowerModel) (original stored : Image) (notes : List LoopNote) (v : FlowGraph) (t : LoopView) (w : ℕ → ℕ) (plain numbers : Numbers) (bound : ℕ) : Type 0 where
+pub record FollowsInTime (power : PowerModel) (original stored : Image) (notes : List LoopNote) (v : FlowGraph) (t : LoopView) (w : ℕ → ℕ)
+    (plain numbers : Numbers) (bound : ℕ) : Type 0 where
   -- it has taken at most the worst cycles under the plain weights, so each run that stays kept ends
   pub cycles : (input : List ℕ) (n : ℕ) → IsKeptUpTo original (length power.levels) input (noted_loops notes) n →
       (price_of power original input n).cycles ≤ plain.worst 0

@@ -18,7 +18,8 @@ use Rattle.rewritten_runs.specs.Promise.{KeepsThePromise}
 use Rattle.rewritten_runs.specs.Followed.{FollowsInTime}
 
 -- A rewritten file is an image with the original's text ranges and with a key that starts it at this level. It keeps the promise and follows the original in time.
-pub record IsSafelyRewrittenBy (power : PowerModel) (image : Image) (notes : List LoopNote) (v : FlowGraph) (t : LoopView) (rule : Rule) (plain stored : Numbers) (bound start : ℕ) (file : List ℕ) : Type 0 where
+pub record IsSafelyRewrittenBy (power : PowerModel) (image : Image) (notes : List LoopNote) (v : FlowGraph) (t : LoopView) (rule : Rule)
+    (plain stored : Numbers) (bound start : ℕ) (file : List ℕ) : Type 0 where
   pub rewritten : Image
   pub is : image_of file ≡ Ok rewritten
   pub same_text : rewritten.text ≡ image.text
@@ -52,7 +53,8 @@ abbrev pub BudgetedImagesFollow : Type 0
 BudgetedImagesFollow = (power : PowerModel) → IsPowerModel power → (budget : ℕ → ℕ) (rule : Rule) → KeepsBudgets power budget rule →
     (file : List ℕ) (image : Image) (notes : List LoopNote) (v : FlowGraph) (t : LoopView) (plain stored extra : Numbers) (least : Charged)
     (sites : List Site) (base start : ℕ)
-    → image_of file ≡ Ok image → image.keyed_segment ≡ None → length file ≤ IMAGE_LIMIT → IsWeighedBy power image notes v t rule plain stored →
+    → image_of file ≡ Ok image → image.keyed_segment ≡ None → length file ≤ IMAGE_LIMIT
+    → IsWeighedBy power image notes v t rule plain stored →
     start < length power.levels → AreBudgets power budget start (stored.worst 0)
     → HasStubsBy power image v t rule stored extra least sites base → out_of_reach base sites ≡ None
     → IsSafelyRewrittenBy power image notes v t rule plain stored (extra.worst 0) start (rewritten_file image sites base start)

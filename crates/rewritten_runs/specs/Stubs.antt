@@ -179,7 +179,8 @@ counter_of t k = first_counter + set_before t.counted k
 -- ---- a program with its numbers
 
 -- The graph and the loops of an image, whose counted loops can be counted, with its numbers under the plain weights and under those with the marks of a rule.
-pub record IsWeighedBy (power : PowerModel) (image : Image) (notes : List LoopNote) (v : FlowGraph) (t : LoopView) (rule : Rule) (plain stored : Numbers) : Type 0 where
+pub record IsWeighedBy (power : PowerModel) (image : Image) (notes : List LoopNote) (v : FlowGraph) (t : LoopView) (rule : Rule)
+    (plain stored : Numbers) : Type 0 where
   pub code_is : IsGraphOf (text_of image) v
   pub tree_is : IsTreeOf v notes t
   pub counters : AreCounters v t (Ok (counted_loops t))
@@ -187,7 +188,8 @@ pub record IsWeighedBy (power : PowerModel) (image : Image) (notes : List LoopNo
   pub stored_are : AreNumbers (graph v) (loops v t) (stored_weights power image v (marks_by v t rule)) stored
 
 -- The same where the marks are handed in, whatever chose them: there are no plain weights then.
-pub record IsWeighedWith (power : PowerModel) (image : Image) (notes : List LoopNote) (v : FlowGraph) (t : LoopView) (marked : ℕ → List Mark) (stored : Numbers) : Type 0 where
+pub record IsWeighedWith (power : PowerModel) (image : Image) (notes : List LoopNote) (v : FlowGraph) (t : LoopView)
+    (marked : ℕ → List Mark) (stored : Numbers) : Type 0 where
   pub code_is : IsGraphOf (text_of image) v
   pub tree_is : IsTreeOf v notes t
   pub counters : AreCounters v t (Ok (counted_loops t))
@@ -199,7 +201,8 @@ IsWeighed power image notes v t plain stored = IsWeighedBy power image notes v t
 
 -- Its stubs, too: the least cycles under the stored weights, which the tables need, the numbers under the extra weights, and the marked instructions with the
 -- place of their block. A block that is too long for any place is looked for one of 4,194,304 bytes: its last stub is out of reach.
-pub record HasStubsWith (power : PowerModel) (test : EdgeNumbers → ℕ → ℕ → Bool) (image : Image) (v : FlowGraph) (t : LoopView) (marked : ℕ → List Mark) (stored extra : Numbers) (least : Charged) (sites : List Site) (base : ℕ) : Type 0 where
+pub record HasStubsWith (power : PowerModel) (test : EdgeNumbers → ℕ → ℕ → Bool) (image : Image) (v : FlowGraph) (t : LoopView)
+    (marked : ℕ → List Mark) (stored extra : Numbers) (least : Charged) (sites : List Site) (base : ℕ) : Type 0 where
   pub least_are : AreCharged (graph v) (loops v t) (stored_weights power image v marked) least
   pub extra_are : AreNumbers (graph v) (loops v t) (extra_weights power v marked) extra
   pub sites_are : AreSitesOf image v.code (fragments_with power test image v t marked stored least) sites

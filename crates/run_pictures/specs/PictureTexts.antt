@@ -26,7 +26,8 @@ is_plain b = not (b == 38) && not (b == 60) && not (b == 62) && nat_le 32 b
 
 abbrev pub escaped_byte : ℕ → List ℕ
 escaped_byte b =
-    cond (b == 38) (codes "&amp;") (cond (b == 60) (codes "&lt;") (cond (b == 62) (codes "&gt;") (cond (nat_le 32 b && nat_lt b 127) (b ∷ []) (codes "?"))))
+    cond (b == 38) (codes "&amp;") (cond (b == 60) (codes "&lt;") (cond (b == 62) (codes "&gt;") (cond (nat_le 32 b
+    && nat_lt b 127) (b ∷ []) (codes "?"))))
 
 unfoldable pub escaped : List ℕ → List ℕ
 escaped name = cond (list_all is_plain name) name (flat_map escaped_byte name)
@@ -68,7 +69,8 @@ abbrev pub is_merged : (begin bar : BarEnd) → Bool
 is_merged begin bar = nat_lt 1 (stretches_in begin bar)
 
 abbrev pub bar_words : (begin bar : BarEnd) → List ℕ
-bar_words begin bar = cond (is_merged begin bar) (decimal (stretches_in begin bar) ++ codes " stretches") (codes "level " ++ decimal bar.level)
+bar_words begin bar =
+    cond (is_merged begin bar) (decimal (stretches_in begin bar) ++ codes " stretches") (codes "level " ++ decimal bar.level)
 
 -- A bar of one stretch is as high as its level, in its shade. A merged one is as high as its energy per time, and hatched.
 abbrev pub bar_height : List Level → (begin bar : BarEnd) → ℕ
@@ -81,7 +83,8 @@ bar_fill levels begin bar = cond (is_merged begin bar) (codes "url(#merged)") (c
 -- a rectangle that tells what it stands for
 unfoldable pub rectangle_place : (x y width height : ℕ) → List ℕ
 rectangle_place x y width height =
-    codes "<rect x='" ++ decimal x ++ codes "' y='" ++ decimal y ++ codes "' width='" ++ decimal width ++ codes "' height='" ++ decimal height ++ codes "'"
+    codes "<rect x='" ++ decimal x ++ codes "' y='" ++ decimal y ++ codes "' width='" ++ decimal width ++ codes "' height='"
+    ++ decimal height ++ codes "'"
 
 unfoldable pub rectangle_words : (fill words : List ℕ) → List ℕ
 rectangle_words fill words = codes " fill='" ++ fill ++ codes "'><title>" ++ words ++ codes "</title></rect>\n"
@@ -133,16 +136,19 @@ all_stretches bars = unwrap_or (option_map (λ bar. bar.stretches) (last_or None
 -- the number of a run, from 1 on, and the names of its files
 unfoldable pub name_head : (y number : ℕ) → List ℕ
 name_head y number =
-    codes "<svg x='240' y='" ++ decimal y ++ codes "' width='7700' height='190'><text y='140'><tspan font-weight='bold'>run " ++ decimal number ++ codes "</tspan>  "
+    codes "<svg x='240' y='" ++ decimal y ++ codes "' width='7700' height='190'><text y='140'><tspan font-weight='bold'>run "
+    ++ decimal number ++ codes "</tspan>  "
 
 abbrev pub name_text : ℕ → PictureRun → List ℕ
 name_text k run =
-    name_head (row_top k - 20) (k + 1) ++ escaped (string_bytes run.image_name) ++ codes " with input " ++ escaped (string_bytes run.input_name) ++ codes "</text></svg>\n"
+    name_head (row_top k - 20) (k + 1) ++ escaped (string_bytes run.image_name) ++ codes " with input "
+    ++ escaped (string_bytes run.input_name) ++ codes "</text></svg>\n"
 
 -- by how much a run is late
 unfoldable pub late_line : ℕ → ℕ → List ℕ
 late_line y by =
-    codes "<text x='9360' y='" ++ decimal y ++ codes "' text-anchor='end' font-weight='bold' fill='#a84300'>late by " ++ decimal by ++ codes "</text>\n"
+    codes "<text x='9360' y='" ++ decimal y ++ codes "' text-anchor='end' font-weight='bold' fill='#a84300'>late by " ++ decimal by
+    ++ codes "</text>\n"
 
 abbrev pub late_text : (k deadline time : ℕ) → List ℕ
 late_text k deadline time = cond (nat_lt deadline time) (late_line (row_top k + 120) (time - deadline)) []
@@ -175,11 +181,14 @@ unfoldable pub base_line : ℕ → List ℕ
 base_line y = codes "<path d='M240 " ++ decimal y ++ codes "H9360' stroke='#52606d' stroke-width='12'/>\n"
 
 unfoldable pub deadline_line : (x top bottom : ℕ) → List ℕ
-deadline_line x top bottom = codes "<path d='M" ++ decimal x ++ codes " " ++ decimal top ++ codes "V" ++ decimal bottom ++ codes "' stroke='#d55e00' stroke-width='24'/>\n"
+deadline_line x top bottom =
+    codes "<path d='M" ++ decimal x ++ codes " " ++ decimal top ++ codes "V" ++ decimal bottom
+    ++ codes "' stroke='#d55e00' stroke-width='24'/>\n"
 
 unfoldable pub end_mark : (x y : ℕ) (mark : List ℕ) → List ℕ
 end_mark x y mark =
-    codes "<path transform='translate(" ++ decimal x ++ codes " " ++ decimal y ++ codes ")' d='" ++ mark ++ codes "' fill='none' stroke='#1f2933' stroke-width='20'/>\n"
+    codes "<path transform='translate(" ++ decimal x ++ codes " " ++ decimal y ++ codes ")' d='" ++ mark
+    ++ codes "' fill='none' stroke='#1f2933' stroke-width='20'/>\n"
 
 abbrev pub frame_text : Axis → ℕ → RunReport → List ℕ
 frame_text axis base report =
@@ -190,14 +199,16 @@ frame_text axis base report =
 -- how a run ended, and its numbers
 unfoldable pub numbers_line : ℕ → End → RunPrice → List ℕ
 numbers_line y end paid =
-    codes "<text y='" ++ decimal y ++ codes "'><tspan x='240'>" ++ end_phrase end ++ codes "</tspan><tspan x='2800'>cycles " ++ decimal paid.cycles
+    codes "<text y='" ++ decimal y ++ codes "'><tspan x='240'>" ++ end_phrase end ++ codes "</tspan><tspan x='2800'>cycles "
+    ++ decimal paid.cycles
     ++ codes "</tspan><tspan x='4500'>time " ++ decimal paid.time ++ codes "</tspan><tspan x='6200'>energy " ++ decimal paid.energy
     ++ codes "</tspan><tspan x='8000'>switches " ++ decimal paid.switches ++ codes "</tspan></text>\n"
 
 -- which stretches are merged, if any are
 unfoldable pub note_line : (y merged all hatched : ℕ) → List ℕ
 note_line y merged all hatched =
-    codes "<text x='240' y='" ++ decimal y ++ codes "' fill='#52606d'>hatched: " ++ decimal merged ++ codes " of " ++ decimal all ++ codes " stretches, merged into "
+    codes "<text x='240' y='" ++ decimal y ++ codes "' fill='#52606d'>hatched: " ++ decimal merged ++ codes " of " ++ decimal all
+    ++ codes " stretches, merged into "
     ++ decimal hatched ++ codes " bars</text>\n"
 
 abbrev pub note_text : ℕ → List BarEnd → List ℕ
@@ -239,7 +250,8 @@ anchor_at x = cond (nat_lt x 4800) (codes "start") (codes "end")
 
 unfoldable pub deadline_label : (x deadline : ℕ) → List ℕ
 deadline_label x deadline =
-    codes "<text x='" ++ decimal x ++ codes "' y='260' text-anchor='" ++ anchor_at x ++ codes "' fill='#a84300'>deadline " ++ decimal deadline ++ codes "</text>\n"
+    codes "<text x='" ++ decimal x ++ codes "' y='260' text-anchor='" ++ anchor_at x ++ codes "' fill='#a84300'>deadline "
+    ++ decimal deadline ++ codes "</text>\n"
 
 abbrev pub head_text : Axis → ℕ → List ℕ
 head_text axis height = head_line (height / 10) height ++ pattern_text ++ ground height ++ deadline_label (place axis.end axis.deadline)
@@ -277,12 +289,14 @@ axis_text axis y = base_line y ++ ticks_text axis y ++ unit_text (y + 370) (unit
 -- a level: its shade and its height, and the time and the energy of its cycle
 unfoldable pub level_bar : (x y height : ℕ) (fill : List ℕ) → List ℕ
 level_bar x y height fill =
-    codes "<rect x='" ++ decimal x ++ codes "' y='" ++ decimal (y - height) ++ codes "' width='200' height='" ++ decimal height ++ codes "' fill='" ++ fill ++ codes "'/>\n"
+    codes "<rect x='" ++ decimal x ++ codes "' y='" ++ decimal (y - height) ++ codes "' width='200' height='" ++ decimal height
+    ++ codes "' fill='" ++ fill ++ codes "'/>\n"
 
 unfoldable pub level_words : (x y i period energy : ℕ) → List ℕ
 level_words x y i period energy =
     codes "<text y='" ++ decimal (y - 280) ++ codes "'><tspan x='" ++ decimal x ++ codes "' font-weight='bold'>level " ++ decimal i
-    ++ codes "</tspan><tspan x='" ++ decimal x ++ codes "' dy='140'>time " ++ decimal period ++ codes "</tspan><tspan x='" ++ decimal x ++ codes "' dy='140'>energy "
+    ++ codes "</tspan><tspan x='" ++ decimal x ++ codes "' dy='140'>time " ++ decimal period ++ codes "</tspan><tspan x='" ++ decimal x
+    ++ codes "' dy='140'>energy "
     ++ decimal energy ++ codes "</tspan></text>\n"
 
 abbrev pub level_x : ℕ → ℕ
@@ -323,11 +337,13 @@ picture_svg picture = svg_on (axis_of picture) picture
 -- a run: its number, how it ended, its numbers, and how many of its stretches are drawn merged
 unfoldable pub run_line_head : ℕ → End → RunPrice → List ℕ
 run_line_head number end paid =
-    codes "run " ++ decimal number ++ codes " " ++ end_words end ++ codes " cycles " ++ decimal paid.cycles ++ codes " time " ++ decimal paid.time
+    codes "run " ++ decimal number ++ codes " " ++ end_words end ++ codes " cycles " ++ decimal paid.cycles ++ codes " time "
+    ++ decimal paid.time
 
 unfoldable pub run_line_rest : RunPrice → ℕ → List ℕ
 run_line_rest paid merged =
-    codes " energy " ++ decimal paid.energy ++ codes " switches " ++ decimal paid.switches ++ codes " merged " ++ decimal merged ++ codes "\n"
+    codes " energy " ++ decimal paid.energy ++ codes " switches " ++ decimal paid.switches ++ codes " merged " ++ decimal merged
+    ++ codes "\n"
 
 unfoldable pub run_line : ℕ → PictureRun → List ℕ
 run_line number run =

@@ -48,7 +48,8 @@ abbrev pub longest : ℕ → List PictureRun → ℕ
 longest end runs = fold (λ most run. max most run.report.meter.time) end runs
 
 unfoldable pub axis_of : RunPicture → Axis
-axis_of picture = (let end = longest picture.power.deadline picture.runs.items in record { end = end; deadline = picture.power.deadline; tick = tick_of end })
+axis_of picture = (let end = longest picture.power.deadline picture.runs.items in
+    record { end = end; deadline = picture.power.deadline; tick = tick_of end })
 
 -- an axis as it is for every picture: its times are those that runs can take, and it has at most nine ticks
 pub record IsAxis (axis : Axis) : Type 0 where

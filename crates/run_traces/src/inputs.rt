@@ -101,15 +101,15 @@ impl Runs<'_> {
         Ok(sums)
     }
 
-    /// Adds what the walks do at the candidates: those with habits have no weight.
+    /// Adds what the walks do at the candidates: each has as many shares as there are runs before, and those with habits have no weight.
     fn add_walk_runs(
         &self,
         alloc: Global,
         watched: &Watched<'_>,
-        shares: u64,
         runs: &mut Vec<RunMarks>,
         trace: &mut EdgeTrace,
     ) -> Result<(), NoMemory> {
+        let shares = (runs.len() as u64).max(1);
         for number in 0..WALKS + HABITS {
             if let Some(cycles) = walked(alloc, self.plan, number, trace)? {
                 let own = if number < WALKS { shares } else { 0 };
@@ -144,8 +144,7 @@ impl Runs<'_> {
                 runs.push(RunMarks::new(alloc, watched, trace, run)?)?;
             }
         }
-        let shares = (runs.len() as u64).max(1);
-        self.add_walk_runs(alloc, watched, shares, &mut runs, trace)?;
+        self.add_walk_runs(alloc, watched, &mut runs, trace)?;
         Ok(runs)
     }
 }

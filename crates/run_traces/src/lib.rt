@@ -19,5 +19,5 @@ pub use numbers::{EdgeNumbers, Numbers, numbers_of};
 pub use runs::{Candidate, CandidateRun, RunMarks, Span, Watched};
 pub use sums::{EdgeSum, Sums};
 pub use tracing::{EdgeTrace, may_switch};
-pub use turning::{LoopPlan, MOST_LOOPS, loop_plan};
+pub use turning::{LoopPlan, MOST_LOOPS, NumberedProgram, loop_plan};
 pub use walking::WalkPlan;

@@ -227,21 +227,28 @@ fn most_of(tree: &LoopTree, l: usize) -> usize {
     }
 }
 
+/// A program's graph and loops, with its numbers.
+#[derive(Clone, Copy)]
+pub struct NumberedProgram<'a> {
+    pub graph: &'a CodeGraph,
+    pub tree: &'a LoopTree,
+    pub numbers: &'a Numbers,
+}
+
 /// Loop `l` as one that is tallied, if each of its back edges can have a stub, and it has few of them and of edges that leave it.
 pub fn loop_plan(
     alloc: Global,
-    graph: &CodeGraph,
-    tree: &LoopTree,
-    numbers: &Numbers,
+    program: &NumberedProgram<'_>,
     costs: &StubCosts,
     l: usize,
 ) -> Result<Option<LoopPlan>, NoMemory> {
+    let (graph, tree) = (program.graph, program.tree);
     if l >= tree.loop_count() {
         return Ok(None);
     }
     let mut plan = LoopPlan::bare(alloc, graph, tree, l);
     for k in tree.body(l) {
-        if !plan.add_node(graph, tree, numbers, *k)? {
+        if !plan.add_node(graph, tree, program.numbers, *k)? {
             return Ok(None);
         }
     }

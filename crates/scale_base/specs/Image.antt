@@ -187,7 +187,10 @@ text_end_of h = round_down 4 (h.p_vaddr + h.p_filesz)
 abbrev pub text_of_segment : ProgramHeader → Option TextPart
 text_of_segment h =
     if is_code_segment h && nat_lt (text_start_of h) (text_end_of h)
-    then Some (record { span = record { from = text_start_of h; len = text_end_of h - text_start_of h }; place = h.p_offset + (text_start_of h - h.p_vaddr) }) else None
+    then Some (record {
+      span = record { from = text_start_of h; len = text_end_of h - text_start_of h };
+      place = h.p_offset + (text_start_of h - h.p_vaddr);
+    }) else None
 
 -- the parts of the text, in the order of their table. Here and below `segments` are the loaded segments of the file.
 unfoldable pub text_parts : List ℕ → List ProgramHeader → List TextPart

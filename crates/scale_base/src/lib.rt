@@ -35,6 +35,7 @@ pub use layout::{
 pub use least::lesser;
 pub use limits::{
     BLOCK_LIMIT, CYCLE_LIMIT, FILE_LIMIT, IMAGE_LIMIT, RETURN_LIMIT, STORED_LIMIT, WORD_LIMIT,
+    limit_values,
 };
 pub use names::{Cycle, Name};
 pub use plan::{ScalePlan, SiteLine};

@@ -1,5 +1,7 @@
 //! How large files and numbers may be. Code, clauses and definitions cite these names.
 
+ghost use Rattle.std.specs.Prelude.{◌≡◌, ◌^◌};
+
 /// The most bytes of an image as it is given.
 pub const IMAGE_LIMIT: usize = 4_194_304;
 
@@ -20,3 +22,14 @@ pub const RETURN_LIMIT: usize = 131_072;
 
 /// The most cycles of a program, 2^48.
 pub const CYCLE_LIMIT: u64 = 281_474_976_710_656;
+
+/// Which numbers these names stand for.
+pub fn limit_values()
+    ensures image { IMAGE_LIMIT ≡ 4194304 }
+    ensures block { BLOCK_LIMIT ≡ 4194304 }
+    ensures stored { STORED_LIMIT ≡ 8388608 }
+    ensures file { FILE_LIMIT ≡ 1048576 }
+    ensures words { WORD_LIMIT ≡ 131072 }
+    ensures returns { RETURN_LIMIT ≡ 131072 }
+    ensures cycles { CYCLE_LIMIT ≡ 2 ^ 48 }
+{}

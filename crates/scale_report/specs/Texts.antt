@@ -221,11 +221,13 @@ spaced_words rows = flat_map (λ word. 32 ∷ word_digits word) rows
 -- a fragment, with the number of its loop
 abbrev pub fragment_words : ℕ → Fragment → List ℕ
 fragment_words loop_no (fragment.Switch word) = codes "switch " ++ word_digits word
-fragment_words loop_no (fragment.Exit counter shift rows) = codes "exit " ++ decimal loop_no ++ codes " " ++ decimal shift ++ spaced_words rows
+fragment_words loop_no (fragment.Exit counter shift rows) =
+    codes "exit " ++ decimal loop_no ++ codes " " ++ decimal shift ++ spaced_words rows
 fragment_words loop_no (fragment.Reset counter) = codes "reset " ++ decimal loop_no
 fragment_words loop_no (fragment.Count counter) = codes "count " ++ decimal loop_no
 fragment_words loop_no (fragment.Lowest down) = codes "lowest" ++ cond down [] (codes " off")
-fragment_words loop_no (fragment.Tally counter shift from) = codes "tally " ++ decimal loop_no ++ codes " " ++ decimal shift ++ codes " " ++ decimal from
+fragment_words loop_no (fragment.Tally counter shift from) =
+    codes "tally " ++ decimal loop_no ++ codes " " ++ decimal shift ++ codes " " ++ decimal from
 
 -- the line of a fragment
 unfoldable pub site_line : SiteLine → List ℕ
@@ -271,7 +273,8 @@ numbered_lines line k (item ∷ items) = line k item ++ numbered_lines line (k +
 
 -- what the scaled run took
 unfoldable pub scaled_words : (cycles time energy : ℕ) → List ℕ
-scaled_words cycles time energy = codes "scaled cycles " ++ decimal cycles ++ codes " time " ++ decimal time ++ codes " energy " ++ decimal energy
+scaled_words cycles time energy =
+    codes "scaled cycles " ++ decimal cycles ++ codes " time " ++ decimal time ++ codes " energy " ++ decimal energy
 
 -- the line of an input: the cycles of the original run, and what the scaled one took
 unfoldable pub input_line : ℕ → Surveyed → List ℕ

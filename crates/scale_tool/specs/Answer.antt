@@ -97,7 +97,11 @@ unless_refused (Err refusal) next = refused refusal
 -- all files, the summary, and the two reports
 abbrev pub runs_answer : List ℕ → MadeFiles → List ℕ × Summary → (first second : RunReport) → Answer
 runs_answer prefix made scaled first second =
-    record { stores = made_stores prefix made scaled.0; text = summary_text scaled.1 ++ run_text first ++ run_text second; status = run_status second.end }
+    record {
+      stores = made_stores prefix made scaled.0;
+      text = summary_text scaled.1 ++ run_text first ++ run_text second;
+      status = run_status second.end;
+    }
 
 -- how both images run: the made one with its loop file, and the scaled one without one; or the first refusal
 abbrev pub scaled_answer : List ℕ → MadeFiles → List ℕ × Summary → Answer

@@ -102,8 +102,10 @@ wants_of (Report image machine loops) = (image, IMAGE_LIMIT) ∷ (machine, FILE_
 wants_of (Simulate image machine input out loops) = (image, STORED_LIMIT) ∷ (machine, FILE_LIMIT) ∷ (input, FILE_LIMIT) ∷ loop_wants loops
 wants_of (Make number size prefix) = []
 wants_of (Lower image jumps out) = (image, IMAGE_LIMIT) ∷ (jumps, FILE_LIMIT) ∷ []
-wants_of (Check image foreign machine loops) = (image, IMAGE_LIMIT) ∷ (foreign, STORED_LIMIT) ∷ (machine, FILE_LIMIT) ∷ (loops, FILE_LIMIT) ∷ []
-wants_of (Survey image scaled machine loops inputs) = (image, IMAGE_LIMIT) ∷ (scaled, STORED_LIMIT) ∷ (machine, FILE_LIMIT) ∷ (loops, FILE_LIMIT) ∷
+wants_of (Check image foreign machine loops) =
+    (image, IMAGE_LIMIT) ∷ (foreign, STORED_LIMIT) ∷ (machine, FILE_LIMIT) ∷ (loops, FILE_LIMIT) ∷ []
+wants_of (Survey image scaled machine loops inputs) =
+    (image, IMAGE_LIMIT) ∷ (scaled, STORED_LIMIT) ∷ (machine, FILE_LIMIT) ∷ (loops, FILE_LIMIT) ∷
     input_wants inputs
 wants_of (Tune image machine loops out inputs) = (image, IMAGE_LIMIT) ∷ (machine, FILE_LIMIT) ∷ (loops, FILE_LIMIT) ∷ input_wants inputs
 

@@ -330,7 +330,8 @@ fn program_wants<'a>(
     loops: &'a str,
     inputs: &'a [String],
 ) -> Result<Vec<Want<'a>>, AllocError>
-    ensures { IfOk result (λ wants. want_views wants.items ≡ (image.now, IMAGE_LIMIT) ∷ (machine.now, FILE_LIMIT) ∷ (loops.now, FILE_LIMIT) ∷
+    ensures { IfOk result
+        (λ wants. want_views wants.items ≡ (image.now, IMAGE_LIMIT) ∷ (machine.now, FILE_LIMIT) ∷ (loops.now, FILE_LIMIT) ∷
         input_wants (texts inputs.now)) }
 {
     let mut wants = vec![in alloc;
@@ -378,7 +379,8 @@ fn run_wants<'a>(
     input: &'a str,
     loops: Option<&'a str>,
 ) -> Result<Vec<Want<'a>>, AllocError>
-    ensures { IfOk result (λ wants. want_views wants.items ≡ (image.now, STORED_LIMIT) ∷ (machine.now, FILE_LIMIT) ∷ (input.now, FILE_LIMIT) ∷
+    ensures { IfOk result
+        (λ wants. want_views wants.items ≡ (image.now, STORED_LIMIT) ∷ (machine.now, FILE_LIMIT) ∷ (input.now, FILE_LIMIT) ∷
         loop_wants (option_map (λ l. l.now) loops.entry)) }
 {
     let mut wants = vec![in alloc;

@@ -15,4 +15,6 @@ pub mod MarkingFacts
 pub mod ScalingFacts
 pub mod ProgramFacts
 pub mod agree
+pub mod Uncounted
+pub mod PreparedFacts
 pub mod Laws

@@ -64,7 +64,7 @@ went_through image machine loops min_gain counters given h =
 
 -- ---- the notes keep the same runs
 
-note_changed : (notes : List LoopNote) (k : ℕ) → note_at (map uncounted_note notes) k ≡ uncounted_note (note_at notes k)
+pub note_changed : (notes : List LoopNote) (k : ℕ) → note_at (map uncounted_note notes) k ≡ uncounted_note (note_at notes k)
 note_changed [] k = refl
 note_changed (note ∷ notes) zero = refl
 note_changed (note ∷ notes) (suc k) = note_changed notes k
@@ -72,7 +72,7 @@ note_changed (note ∷ notes) (suc k) = note_changed notes k
 abbrev of_parts : ℕ → (header bound least : ℕ → ℕ) → (ℕ → ℕ → Bool) → Loops
 of_parts n header bound least inside = record { loops = n; header = header; bound = bound; least_trips = least; inside = inside }
 
-same_without : (notes : List LoopNote) → noted_loops notes ≡ noted_loops (map uncounted_note notes)
+pub same_without : (notes : List LoopNote) → noted_loops notes ≡ noted_loops (map uncounted_note notes)
 same_without notes =
     let less = map uncounted_note notes in
     let header : (λ (k : ℕ). (note_at notes k).header) ≡ (λ (k : ℕ). (note_at less k).header) = fun_ext (λ k. ap (λ (note : LoopNote). note.header) (sym (note_changed notes k))) in

@@ -55,7 +55,8 @@ held_within power image worst = if nat_lt CYCLE_LIMIT worst then Err TooLong els
 -- ---- what the program of an image and its loops give
 
 -- it is a program with loops, under the costs of its instructions, and its worst cycles decide
-pub record IsProgramHeld (power : PowerModel) (image : Image) (notes : List LoopNote) (answer : Result (List ℕ × Summary) Refusal) : Type 0 where
+pub record IsProgramHeld (power : PowerModel) (image : Image) (notes : List LoopNote) (answer : Result (List ℕ × Summary) Refusal)
+    : Type 0 where
   pub code : FlowGraph
   pub tree : LoopView
   pub numbers : Numbers

@@ -7,4 +7,5 @@ pub mod RewrittenRuns
 pub mod Planned
 pub mod Lines
 pub mod Scalings
+pub mod Prepared
 pub mod Agree

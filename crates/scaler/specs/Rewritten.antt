@@ -25,7 +25,8 @@ use Rattle.rewritten_runs.specs.Stubs.{IsWeighed, HasStubs, rewritten_file, mark
 -- ---- what the program of an image and its loops give
 
 -- the worst cycles under the stored weights are more than 2^48
-pub record IsTooLong (power : PowerModel) (image : Image) (notes : List LoopNote) (answer : Result (List ℕ × Summary) Refusal) : Type 0 where
+pub record IsTooLong (power : PowerModel) (image : Image) (notes : List LoopNote) (answer : Result (List ℕ × Summary) Refusal)
+    : Type 0 where
   pub code : FlowGraph
   pub tree : LoopView
   pub plain : Numbers
@@ -35,7 +36,8 @@ pub record IsTooLong (power : PowerModel) (image : Image) (notes : List LoopNote
   pub answer_is : answer ≡ Err TooLong
 
 -- they are in range, and even at the fastest level too late
-pub record IsTooLate (power : PowerModel) (image : Image) (notes : List LoopNote) (answer : Result (List ℕ × Summary) Refusal) : Type 0 where
+pub record IsTooLate (power : PowerModel) (image : Image) (notes : List LoopNote) (answer : Result (List ℕ × Summary) Refusal)
+    : Type 0 where
   pub code : FlowGraph
   pub tree : LoopView
   pub plain : Numbers
@@ -46,7 +48,8 @@ pub record IsTooLate (power : PowerModel) (image : Image) (notes : List LoopNote
   pub answer_is : answer ≡ Err (DeadlineMissed (time_at power (fastest power) (stored.worst 0)) power.deadline)
 
 -- they are in time from a starting level on: the program is rewritten, unless a stub is out of reach
-pub record IsProgramRewritten (power : PowerModel) (image : Image) (notes : List LoopNote) (answer : Result (List ℕ × Summary) Refusal) : Type 0 where
+pub record IsProgramRewritten (power : PowerModel) (image : Image) (notes : List LoopNote) (answer : Result (List ℕ × Summary) Refusal)
+    : Type 0 where
   pub code : FlowGraph
   pub tree : LoopView
   pub plain : Numbers

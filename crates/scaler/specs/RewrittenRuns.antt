@@ -15,7 +15,8 @@ use Rattle.marked_images.specs.Promise.{IsStoredSafely}
 
 -- The program of an original with its numbers and its stubs, of which the stored bytes are made: the printed numbers are its own, and the stored image follows the
 -- original in time.
-pub record IsProgramStored (power : PowerModel) (original : Image) (notes : List LoopNote) (rewritten : Image) (stored : List ℕ) (summary : Summary) : Type 0 where
+pub record IsProgramStored (power : PowerModel) (original : Image) (notes : List LoopNote) (rewritten : Image) (stored : List ℕ)
+    (summary : Summary) : Type 0 where
   pub code : FlowGraph
   pub tree : LoopView
   pub plain : Numbers

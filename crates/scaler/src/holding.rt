@@ -1,9 +1,11 @@
 //! A program that runs at one level, the slowest that is safe.
 
-ghost use Rattle.std.specs.Prelude.{◌≡◌, ◌≤◌, ◌<◌, length, None, IfOk};
+ghost use Rattle.std.specs.Prelude.{◌≡◌, ◌≤◌, ◌<◌, List, length, None, Ok, IfOk};
 ghost use Rattle.scale_base.specs.Answer.{AnswersBy};
+ghost use Rattle.loop_file.specs.declared.notes.LoopNote.{LoopNote};
 ghost use Rattle.scaler.specs.Held as held;
 ghost use Rattle.scaler.specs.Runs.{IsHeldSafely};
+ghost use Rattle.scaler.specs.Timed.{IsTimed};
 
 use crate::timing::TimedProgram;
 use answer_parts::time_at;
@@ -42,6 +44,26 @@ fn held_summary(power: &Power, worst: u64, start: u8) -> Summary
     }
 }
 
+/// What is stored of a program with its worst case, at the slowest level that is safe.
+pub fn hold_timed(
+    alloc: Global,
+    view: &ImageView<'_>,
+    power: &Power,
+    program: &TimedProgram,
+) -> Result<(Vec<u8>, Summary), NoMemory>
+    requires file { length view.now.file ≤ IMAGE_LIMIT }
+    requires no_key { view.now.keyed_segment ≡ None }
+    requires timed { (notes : List LoopNote) × IsTimed power.now view.now notes program.now }
+    ensures { (notes : List LoopNote) → IsTimed power.now view.now notes program.now →
+        IfOk result (λ given. held.IsHeldProgram power.now view.now notes (Ok ((given.0.items, given.1)))) }
+{
+    let start = program.start;
+    let worst = program.worst.total();
+    let summary = held_summary(power, worst, start);
+    let bytes = held_file(alloc, view, start)?;
+    Ok((bytes, summary))
+}
+
 /// The program of three files at the slowest level that is safe.
 fn hold_program(alloc: Global, sources: &Sources<'_>) -> Result<(Vec<u8>, Summary), Stop>
     requires file { length sources.now.view.file ≤ IMAGE_LIMIT }
@@ -50,11 +72,8 @@ fn hold_program(alloc: Global, sources: &Sources<'_>) -> Result<(Vec<u8>, Summar
         sources.now.notes) }
 {
     let program = TimedProgram::of(alloc, sources)?;
-    let start = program.start;
-    let worst = program.worst.total();
-    let summary = held_summary(&sources.power, worst, start);
-    let bytes = held_file(alloc, &sources.view, start)?;
-    Ok((bytes, summary))
+    let held = hold_timed(alloc, &sources.view, &sources.power, &program)?;
+    Ok(held)
 }
 
 /// The image with an empty keyed segment that starts it at the slowest level at which its worst case is in time, and the

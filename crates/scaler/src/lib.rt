@@ -17,12 +17,14 @@ use scale_base::{FILE_LIMIT, IMAGE_LIMIT};
 mod holding;
 mod lines;
 mod planning;
+mod preparing;
 mod rewriting;
 mod rewriting_as;
 mod timing;
 
 pub use holding::hold;
 pub use planning::plan;
+pub use preparing::PreparedProgram;
 pub use rewriting::rewrite;
 pub use rewriting_as::rewrite_as;
 pub use timing::TimedProgram;

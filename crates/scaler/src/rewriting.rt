@@ -89,7 +89,7 @@ fn marked_of(
 }
 
 /// The image of a marked program with its stubs, or that one is out of reach.
-fn rewrite_marked(
+pub fn rewrite_marked(
     alloc: Global,
     view: &ImageView<'_>,
     power: &Power,

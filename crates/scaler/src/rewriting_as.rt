@@ -13,7 +13,7 @@ use scale_base::{FILE_LIMIT, IMAGE_LIMIT, Stop, Summary};
 use std::alloc::Global;
 
 /// The machine with another number of cycles of slack from which on an edge gets a switch.
-fn with_gain(power: Power, min_gain: u32) -> Power
+pub fn with_gain(power: Power, min_gain: u32) -> Power
     ensures { result ≡ variant.with_gain power min_gain }
 {
     let mut power = power;

@@ -42,46 +42,48 @@ pub fn has_registers(counter: StackCounter) -> bool
     }
 }
 
+// A multiple of a word of the stack: the word's number, and how many times it is counted.
+#[derive(Clone, Copy)]
+struct Multiple {
+    word: u32,
+    factor: u32,
+}
+
 // Whether a name is that of a word with so much more that so many times it is what is added.
-fn is_more(name: Name, word: u32, factor: u32, adds: u32) -> bool
-    ensures { result ≡ true → IsMore (Some (name_view name)) word factor adds }
+fn is_more(name: Name, multiple: Multiple, adds: u32) -> bool
+    ensures { result ≡ true → IsMore (Some (name_view name)) multiple.word multiple.factor adds }
 {
     match name {
-        Name::OfWord(number, more) => number == word && adds == factor.wrapping_mul(more),
+        Name::OfWord(number, more) => {
+            number == multiple.word && adds == multiple.factor.wrapping_mul(more)
+        }
         Name::OfBegin(..) => false,
     }
 }
 
 // The same of the name that a register has at node k.
-fn is_more_at(claim: &StackClaim<'_>, k: usize, r: u8, word: u32, factor: u32, adds: u32) -> bool
+fn is_more_at(claim: &StackClaim<'_>, k: usize, r: u8, multiple: Multiple, adds: u32) -> bool
     requires claim { IsStackClaim claim.now }
     requires node { k < length claim.now.graph.now.code.nodes }
     ensures { result ≡ true → (a : ℕ) → slice_get claim.now.graph.now.code.nodes k ≡ Some a →
-        IsMore (name_of (claim_stacks claim.now) a r) word factor adds }
+        IsMore (name_of (claim_stacks claim.now) a r) multiple.word multiple.factor adds }
 {
     match name_at(claim, k, r) {
-        Some(name) => is_more(name, word, factor, adds),
+        Some(name) => is_more(name, multiple, adds),
         None => false,
     }
 }
 
 // Whether the instruction at node k stores a register that is so much more than the word.
-fn is_counted_on(
-    claim: &StackClaim<'_>,
-    i: Instr,
-    k: usize,
-    word: u32,
-    factor: u32,
-    adds: u32,
-) -> bool
+fn is_counted_on(claim: &StackClaim<'_>, i: Instr, k: usize, multiple: Multiple, adds: u32) -> bool
     requires claim { IsStackClaim claim.now }
     requires node { k < length claim.now.graph.now.code.nodes }
     ensures { result ≡ true → (a : ℕ) → slice_get claim.now.graph.now.code.nodes k ≡ Some a →
-        IsCountedFrom (claim_stacks claim.now) a i word factor adds }
+        IsCountedFrom (claim_stacks claim.now) a i multiple.word multiple.factor adds }
 {
     match stored_word(claim, i, k) {
         Some((number, register)) => {
-            number == word && is_more_at(claim, k, register, word, factor, adds)
+            number == multiple.word && is_more_at(claim, k, register, multiple, adds)
         }
         None => false,
     }
@@ -92,19 +94,18 @@ fn is_added_to_word(
     claim: &StackClaim<'_>,
     i: Instr,
     k: usize,
-    word: u32,
-    factor: u32,
+    multiple: Multiple,
     adds: u32,
 ) -> bool
     requires claim { IsStackClaim claim.now }
     requires node { k < length claim.now.graph.now.code.nodes }
     ensures { result ≡ true → (shift a : ℕ) → slice_get claim.now.graph.now.code.nodes k ≡ Some a →
-        IsAdded (claim_values claim.now) (claim_stacks claim.now) (in_word word factor shift) a i adds }
+        IsAdded (claim_values claim.now) (claim_stacks claim.now) (in_word multiple.word multiple.factor shift) a i adds }
 {
-    if adds == 0 && is_missed_by(claim, i, k, word) {
+    if adds == 0 && is_missed_by(claim, i, k, multiple.word) {
         return true;
     }
-    is_counted_on(claim, i, k, word, factor, adds)
+    is_counted_on(claim, i, k, multiple, adds)
 }
 
 // Whether an instruction adds so much to a sum of registers.
@@ -133,7 +134,11 @@ pub fn is_added(
     match counter {
         StackCounter::InRegisters(m) => is_effect(m, i, adds),
         StackCounter::InWord { number, factor, .. } => {
-            is_added_to_word(claim, i, k, number, factor, adds)
+            let multiple = Multiple {
+                word: number,
+                factor,
+            };
+            is_added_to_word(claim, i, k, multiple, adds)
         }
     }
 }
@@ -143,7 +148,8 @@ fn is_left_by(claim: &StackClaim<'_>, i: Instr, k: usize, h: usize, r: u8) -> bo
     requires claim { IsStackClaim claim.now }
     requires from { k < length claim.now.graph.now.code.nodes }
     requires entry { h < length claim.now.graph.now.code.nodes }
-    ensures { result ≡ true → (a b : ℕ) → slice_get claim.now.graph.now.code.nodes k ≡ Some a → slice_get claim.now.graph.now.code.nodes h ≡ Some b → instr_at (claim_text claim.now) a ≡ Some i →
+    ensures { result ≡ true → (a b : ℕ) → slice_get claim.now.graph.now.code.nodes k ≡ Some a
+        → slice_get claim.now.graph.now.code.nodes h ≡ Some b → instr_at (claim_text claim.now) a ≡ Some i →
         IsLeftBy (claim_text claim.now) (claim_values claim.now) (claim_stacks claim.now) a b r }
 {
     if r == 0 {
@@ -160,8 +166,10 @@ fn are_left_by(claim: &StackClaim<'_>, m: Measure, i: Instr, k: usize, h: usize)
     requires claim { IsStackClaim claim.now }
     requires from { k < length claim.now.graph.now.code.nodes }
     requires entry { h < length claim.now.graph.now.code.nodes }
-    ensures { result ≡ true → (a b : ℕ) → slice_get claim.now.graph.now.code.nodes k ≡ Some a → slice_get claim.now.graph.now.code.nodes h ≡ Some b → instr_at (claim_text claim.now) a ≡ Some i →
-        IsLeftBy (claim_text claim.now) (claim_values claim.now) (claim_stacks claim.now) a b m.register × IsLeftBy (claim_text claim.now) (claim_values claim.now) (claim_stacks claim.now) a b m.other }
+    ensures { result ≡ true → (a b : ℕ) → slice_get claim.now.graph.now.code.nodes k ≡ Some a
+        → slice_get claim.now.graph.now.code.nodes h ≡ Some b → instr_at (claim_text claim.now) a ≡ Some i →
+        IsLeftBy (claim_text claim.now) (claim_values claim.now) (claim_stacks claim.now) a b m.register
+        × IsLeftBy (claim_text claim.now) (claim_values claim.now) (claim_stacks claim.now) a b m.other }
 {
     is_left_by(claim, i, k, h, m.register) && is_left_by(claim, i, k, h, m.other)
 }
@@ -177,7 +185,8 @@ pub fn is_kept_by(
     requires claim { IsStackClaim claim.now }
     requires from { k < length claim.now.graph.now.code.nodes }
     requires entry { h < length claim.now.graph.now.code.nodes }
-    ensures { result ≡ true → (a b : ℕ) → slice_get claim.now.graph.now.code.nodes k ≡ Some a → slice_get claim.now.graph.now.code.nodes h ≡ Some b → instr_at (claim_text claim.now) a ≡ Some i →
+    ensures { result ≡ true → (a b : ℕ) → slice_get claim.now.graph.now.code.nodes k ≡ Some a
+        → slice_get claim.now.graph.now.code.nodes h ≡ Some b → instr_at (claim_text claim.now) a ≡ Some i →
         IsKeptBy (claim_text claim.now) (claim_values claim.now) (claim_stacks claim.now) a b (counter_view counter) }
 {
     match counter {
@@ -254,18 +263,17 @@ fn is_arc_within(arc: Arc, factor: u32, shift: u32, width: u32) -> bool
 fn is_word_within(
     claim: &StackClaim<'_>,
     k: usize,
-    word: u32,
-    factor: u32,
+    multiple: Multiple,
     shift: u32,
     width: u32,
 ) -> bool
     requires claim { IsStackClaim claim.now }
     requires node { k < length claim.now.graph.now.code.nodes }
     ensures { result ≡ true → (a : ℕ) → slice_get claim.now.graph.now.code.nodes k ≡ Some a →
-        IsWithin (claim_values claim.now) (claim_stacks claim.now) width (in_word word factor shift) a }
+        IsWithin (claim_values claim.now) (claim_stacks claim.now) width (in_word multiple.word multiple.factor shift) a }
 {
-    match word_at(claim, k, word) {
-        Some(arc) => is_arc_within(arc, factor, shift, width),
+    match word_at(claim, k, multiple.word) {
+        Some(arc) => is_arc_within(arc, multiple.factor, shift, width),
         None => false,
     }
 }
@@ -283,6 +291,12 @@ pub fn is_within(claim: &StackClaim<'_>, counter: StackCounter, k: usize, width:
             number,
             factor,
             shift,
-        } => { is_word_within(claim, k, number, factor, shift, width) }
+        } => {
+            let multiple = Multiple {
+                word: number,
+                factor,
+            };
+            is_word_within(claim, k, multiple, shift, width)
+        }
     }
 }

@@ -61,7 +61,8 @@ ended_by (Exited x status) = Some (endings.Exited status)
 ended_by (Trapped trap) = Some (endings.Trapped trap)
 
 -- after a step that led there: the state, the price, what has seen the run, and how the run ended
-pub record IsAdvance {W : Type 0} (power : PowerModel) (see : W → Stepped → W) (o : Outcome) (s : State) (old new : RunPrice) (seen seen' : W) (ended : Option End) : Type 0 where
+pub record IsAdvance {W : Type 0} (power : PowerModel) (see : W → Stepped → W) (o : Outcome) (s : State) (old new : RunPrice)
+    (seen seen' : W) (ended : Option End) : Type 0 where
   pub state : s ≡ o.state
   pub paid : IsPaid power o.end old new
   pub seen_is : seen' ≡ seen_after see o.end seen

@@ -101,7 +101,8 @@ fn advance<M: Memory, W: Watches>(
     requires few { tally.old.meter.steps + tally.old.steps < 2 ^ 40 }
     ensures advance { let o = steps.step (machine_setting M.layout machine.old) (state_of M.bytes machine.old) in IsAdvance power.now W.watched o (state_of M.bytes machine.new) (tallied power.now tally.old) (tallied power.now tally.new) watcher.old watcher.new result }
     ensures setting { machine_setting M.layout machine.new ≡ machine_setting M.layout machine.old }
-    ensures port { let o = steps.step (machine_setting M.layout machine.old) (state_of M.bytes machine.old) in PortBelow o.end machine.old.levels }
+    ensures port { let o = steps.step (machine_setting M.layout machine.old) (state_of M.bytes machine.old) in
+        PortBelow o.end machine.old.levels }
 {
     match code.instr(machine.pc) {
         Some(known) => seen(watcher, &pay_known(machine, known, power, costs, tally)),
@@ -129,10 +130,14 @@ pub fn run_machine<M: Memory, W: Watches, P: Progress>(
     requires code { IsDecodedCode (M.layout machine.old.memory) (M.bytes machine.old.memory) code.now }
     requires levels { machine.old.levels ≡ length given.now.power.now.levels }
     requires start { given.now.start < length given.now.power.now.levels }
-    ensures end { let r = run (machine_setting M.layout machine.old) (state_of M.bytes machine.old) given.now.power.now.steps in result.0 ≡ run_end r.standing }
-    ensures paid { let r = run (machine_setting M.layout machine.old) (state_of M.bytes machine.old) given.now.power.now.steps in result.1 ≡ price given.now.power.now given.now.start r.steps }
-    ensures state { let r = run (machine_setting M.layout machine.old) (state_of M.bytes machine.old) given.now.power.now.steps in state_of M.bytes machine.new ≡ r.state }
-    ensures watched { let env = machine_setting M.layout machine.old in let first = state_of M.bytes machine.old in watcher.new ≡ seen_from env first W.watched watcher.old given.now.power.now.steps }
+    ensures end { let r = run (machine_setting M.layout machine.old) (state_of M.bytes machine.old) given.now.power.now.steps in
+        result.0 ≡ run_end r.standing }
+    ensures paid { let r = run (machine_setting M.layout machine.old) (state_of M.bytes machine.old) given.now.power.now.steps in
+        result.1 ≡ price given.now.power.now given.now.start r.steps }
+    ensures state { let r = run (machine_setting M.layout machine.old) (state_of M.bytes machine.old) given.now.power.now.steps in
+        state_of M.bytes machine.new ≡ r.state }
+    ensures watched { let env = machine_setting M.layout machine.old in let first = state_of M.bytes machine.old in
+        watcher.new ≡ seen_from env first W.watched watcher.old given.now.power.now.steps }
 {
     let power = given.power;
     let costs = CostTable::new(&power.costs);

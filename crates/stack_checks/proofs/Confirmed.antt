@@ -3,6 +3,7 @@ use Rattle.std.proofs.Common.{◌≡◌, ℕ, zero, suc, ◌<◌, ◌^◌, true,
 use Rattle.std.specs.List.{All}
 use Rattle.std.specs.Prelude.{slice_get}
 use Rattle.scale_base.specs.declared.instruction.Instr.{Instr}
+use Rattle.scale_base.specs.Image.{loaded_byte}
 use Rattle.scale_base.specs.State.{reg}
 use Rattle.cost_theory.specs.Graph.{Graph}
 use Rattle.code_text.specs.Text.{Text, instr_at}
@@ -14,7 +15,8 @@ use Rattle.bound_laws.specs.Registers as registers
 use Rattle.bound_laws.specs.Turning.{Leads, Calls}
 use Rattle.stack_laws.specs.Laws.{IsStackAnalysed}
 use Rattle.bound_laws.specs.Values.{Values, Steps, AreIn, IsHeld, IsRegister}
-use Rattle.stack_laws.specs.Stacks.{Stacks, IsPassed, AreEntered, AreBack, IsReturned, IsSparing, IsDescending, IsStackInvariant}
+use Rattle.stack_laws.specs.Cells.{IsCellHeld}
+use Rattle.stack_laws.specs.Stacks.{Stacks, IsCellKept, IsPassed, AreEntered, AreBack, IsReturned, IsSparing, IsDescending, IsStackInvariant}
 use Rattle.wrapped_intervals.specs.declared.lines.Measure.{Measure}
 use Rattle.value_checks.specs.Tables.{IsForm, form_in}
 use Rattle.stack_tables.specs.declared.claims.StackClaim.{StackClaim}
@@ -65,6 +67,7 @@ invariant c is given = record {
   spared_along = along;
   spared_calls = spared_calls;
   spares = spares;
+  cells = cells;
 }
   where
     t : Text
@@ -116,6 +119,9 @@ invariant c is given = record {
     spares : (k e : ℕ) (i : Instr) → e < g.edges → v.live (g.source e) ≡ true → w.spared k (g.source e) ≡ true → instr_at t (g.source e) ≡ Some i → IsSparing v w (g.source e) i k
     spares k e i lt live up at = (sound e lt live i at).spares k up
 
+    cells : (c e : ℕ) (i : Instr) → e < g.edges → v.live (g.source e) ≡ true → instr_at t (g.source e) ≡ Some i → IsCellKept v (g.source e) i (w.cell c)
+    cells c e i lt live at = (sound e lt live i at).cells c
+
 pub invariant_of : (c : StackClaim) → IsStackClaim c → ((e : ℕ) → e < length c.graph.now.code.edges → IsEdgeChecked (text_in c) (graph c.graph.now) (values_in c) (stacks_in c) e) →
     IsStackInvariant (text_in c) (text_graph (text_in c) c.graph.now.code) (values_in c) (stacks_in c)
 unfolding text_in
@@ -133,14 +139,15 @@ edge_so c e k at along sound = record {
     source : address c k ≡ (graph c.graph.now).source e
     source = sym (address_is c k ((graph c.graph.now).source e) at)
 
-pub analysed : (c : StackClaim) → IsStackClaim c → c.view.now.keyed_segment ≡ None → IsStart (values_in c) (stacks_in c) c.view.now.entry → IsStackInvariant (text_in c) (text_graph (text_in c) c.graph.now.code) (values_in c) (stacks_in c) →
+pub analysed : (c : StackClaim) → IsStackClaim c → c.view.now.keyed_segment ≡ None → IsStart (values_in c) (stacks_in c) c.view.now.entry → ((j : ℕ) → IsCellHeld ((stacks_in c).cell j) (loaded_byte c.view.now)) → IsStackInvariant (text_in c) (text_graph (text_in c) c.graph.now.code) (values_in c) (stacks_in c) →
     IsStackAnalysed c.view.now c.graph.now.code (claim_values c) (claim_stacks c)
 unfolding text_in values_in stacks_in
-analysed c is plain start given = record {
+analysed c is plain start cells given = record {
   reached = is.graph_is.reached;
   invariant = given;
   beginning = start.beginning;
   starts = start.starts;
   begins = start.begins;
   plain = plain;
+  cells = cells;
 }

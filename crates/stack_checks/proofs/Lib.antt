@@ -1,4 +1,5 @@
 mod Loops
+mod CellRows
 mod RowLines
 mod Cases
 mod Confirmed

@@ -1,5 +1,5 @@
 -- Scaffold: what the code confirms of stacks: register by register, word by word, line by line and edge by edge.
-use Rattle.std.specs.Prelude.{◌≡◌, ℕ, ℤ, ◌<◌, ◌⊎◌, true, length, Option, Some, None}
+use Rattle.std.specs.Prelude.{◌≡◌, ℕ, ℤ, ◌<◌, ◌⊎◌, true, List, length, slice_get, Option, Some, None}
 use Rattle.scale_base.specs.declared.instruction.ImmOp.TheVariants.{Addi}
 use Rattle.scale_base.specs.declared.instruction.RegOp.TheVariants.{Add}
 use Rattle.scale_base.specs.declared.instruction.Instr.TheVariants.{Imm, Reg}
@@ -10,11 +10,14 @@ use Rattle.cost_theory.specs.Graph.{Graph}
 use Rattle.code_text.specs.Text.{Text, instr_at}
 use Rattle.bound_laws.specs.Registers.{Measure, keeps, measured}
 use Rattle.bound_laws.specs.Laws.{starting_registers}
-use Rattle.bound_laws.specs.Values.{Arc, Values, AreIn, Covers, IsCovered, IsHeld, IsLineCovered, IsRegister, IsSolved, line_of, passed, sum_with}
-use Rattle.stack_laws.specs.Making.{moved, IsLineMade, IsSide}
+use Rattle.bound_laws.specs.Values.{Arc, Values, AreIn, Covers, IsCovered, IsHeld, IsLineCovered, IsRegister, IsSolved, line_of, passed}
+use Rattle.stack_laws.specs.Making.{IsLineMade, IsSide, IsSubtracted, IsSumBy}
 use Rattle.stack_laws.specs.Stacks.Name.{of_begin}
-use Rattle.stack_laws.specs.Stacks.{Stacks, name_span, IsBeginning, IsCoveredOver, IsLoadedTo, IsMissed, IsNamedOver, IsSpannedOver, IsStoredFrom, IsWordCovered, IsWordNamed, IsWordSpanned, ArePassed, IsPassed, IsDescending, IsRestored, IsSafe, IsSparing, IsRegisterBack, IsNameBack, IsSpanBack, IsSumBack, IsWordBack, IsWordNameBack, IsWordSpanBack, AreEntered, AreBack, IsReturned}
-use Rattle.stack_tables.specs.Tables.{IsStackClaim, address, stacks_in, text_in, values_in}
+use Rattle.stack_laws.specs.Stacks.{Stacks, name_span, IsBeginning, IsCoveredOver, IsLoadedTo, IsMissed, IsNamedOver, IsSpannedOver, IsStoredFrom, IsWordCovered, IsWordNamed, IsWordSpanned, ArePassed, IsPassed, IsCellKept, IsDescending, IsRestored, IsSafe, IsSparing, IsRegisterBack, IsNameBack, IsSpanBack, IsSumBack, IsWordBack, IsWordNameBack, IsWordSpanBack, AreEntered, AreBack, IsReturned}
+use Rattle.stack_laws.specs.Cells.{IsLoadedFrom}
+use Rattle.stack_tables.specs.declared.tables.Cell.{Cell}
+use Rattle.stack_tables.specs.Tables.{IsStackClaim, address, cell_view, stacks_in, text_in, values_in}
+use Rattle.stack_checks.specs.declared.cells.Loading.{Loading}
 use Rattle.stack_checks.specs.declared.ways.Way.{Way}
 use Rattle.stack_checks.specs.declared.origins.Origin.{Origin}
 use Rattle.stack_checks.specs.declared.origins.Origin.TheVariants.{Left, Plus, Sum, Loaded, Other}
@@ -82,19 +85,33 @@ IsSolvedAlong x r = IsSolved (values_along x) x.instr (from x) (to x) r
 abbrev pub IsSideOf : Way → Measure → ℕ → Type 0
 IsSideOf x m k = IsSide m ((values_along x).forms k)
 
-abbrev pub IsLineBy : Way → ℕ → Measure → Type 0
-IsLineBy x j n =
-    (k : ℕ) × (form : Measure) × (more : ℕ) × IsSideOf x form k × (n ≡ moved form more) ×
-    Covers ((values_along x).lines (to x) j) (sum_with ((values_along x).lines (from x) k) more)
+abbrev pub IsSumAlong : Way → Option Arc → Measure → Type 0
+IsSumAlong x interval n = IsSumBy (values_along x) (from x) n interval
 
 abbrev pub IsLineFrom : Way → ℕ → Measure → Type 0
-IsLineFrom x j n = Covers ((values_along x).lines (to x) j) (line_of n ((values_along x).at (from x))) ⊎ IsLineBy x j n
+IsLineFrom x j n = Covers ((values_along x).lines (to x) j) (line_of n ((values_along x).at (from x))) ⊎
+    IsSumAlong x ((values_along x).lines (to x) j) n
+
+abbrev pub IsSubtractedAlong : Way → ℕ → Type 0
+IsSubtractedAlong x r = IsSubtracted (values_along x) x.instr (from x) (to x) r
 
 abbrev pub IsLineMadeAlong : Way → ℕ → Type 0
 IsLineMadeAlong x j = IsLineMade (values_along x) x.instr (from x) (to x) j
 
 pub record IsLineAlong (x : Way) (j : ℕ) : Type 0 where
   pub covered : IsLineCovered (values_along x) x.instr (from x) (to x) j ⊎ IsLineMadeAlong x j
+
+-- a load of a cell whose numbers are all of an interval
+pub record IsLoadOf (loading : Loading) (cell : Cell) : Type 0 where
+  pub from : IsLoadedFrom loading.op loading.place (cell_view cell)
+  pub covers : Covers loading.values (Some cell.values)
+
+-- of one of these
+pub record IsSomeLoaded (loading : Loading) (cells : List Cell) : Type 0 where
+  pub number : ℕ
+  pub cell : Cell
+  pub cell_is : slice_get cells number ≡ Some cell
+  pub load : IsLoadOf loading cell
 
 abbrev pub IsNamedAlong : Way → ℕ → Type 0
 IsNamedAlong x r = IsNamedOver (values_along x) (stacks_along x) x.instr (from x) (to x) r
@@ -173,6 +190,7 @@ pub record IsEdgeSound (t : Text) (g : Graph) (v : Values) (w : Stacks) (i : Ins
   pub spared_calls : (f k : ℕ) → g.callee e ≡ Some f → w.spared k a ≡ true → (w.spared k (g.entry f) ≡ true) × (more : ℕ) ×
       IsDescending v w a more
   pub spares : (k : ℕ) → w.spared k a ≡ true → IsSparing v w a i k
+  pub cells : (c : ℕ) → IsCellKept v a i (w.cell c)
 
 -- of any edge
 pub record IsEdgeChecked (t : Text) (g : Graph) (v : Values) (w : Stacks) (e : ℕ) : Type 0 where

@@ -12,6 +12,7 @@ ghost use Rattle.stack_checks.specs.Checked.{AreBackAlong, AreEnteredAlong, AreP
 ghost use Rattle.stack_tables.specs.Tables.{IsStackClaim, address, stacks_in, text_in, values_in};
 
 use crate::calls::{are_registers_begun, are_registers_behind, are_registers_returned};
+use crate::cells::are_cells_kept;
 use crate::lines::{are_lines_behind, are_lines_covered};
 use crate::registers::{are_registers_covered, are_registers_passed};
 use crate::ways::Way;
@@ -349,7 +350,10 @@ fn is_sound(claim: &StackClaim<'_>, i: Instr, k: usize, e: usize) -> bool
     if !is_spared_called(claim, k, e) {
         return false;
     }
-    is_sparing_checked(claim, i, k)
+    if !is_sparing_checked(claim, i, k) {
+        return false;
+    }
+    are_cells_kept(claim, i, k)
 }
 
 // The same, where a run may come to node k.

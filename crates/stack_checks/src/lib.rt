@@ -1,13 +1,15 @@
 //! Whether the code of a program confirms a table of its stacks: what is known of registers, of sums of two registers and of the words of the
-//! stack at each node, and which registers the functions give back as they found them.
+//! stack at each node, which registers the functions give back as they found them, and numbers in memory that are always in an interval.
 //! Tests: crates/graph_tests/src/stack_bounds.rt.
 #![tactic(auto)]
 
 mod calls;
+mod cells;
 mod confirming;
 mod edges;
 mod lines;
 mod made;
+mod memory;
 mod origins;
 mod registers;
 mod starting;

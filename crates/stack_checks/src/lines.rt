@@ -5,18 +5,19 @@ ghost use Rattle.std.specs.Prelude.{◌≡◌, ◌<◌, ◌%◌, ◌^◌, ℕ, l
 ghost use Rattle.bound_laws.specs.Laws.{starting_registers};
 ghost use Rattle.bound_laws.specs.Registers as registers;
 ghost use Rattle.bound_laws.specs.Values as values;
-ghost use Rattle.wrapped_intervals.specs.Small.{IsKeptOr, measure_view};
+ghost use Rattle.wrapped_intervals.specs.Small.{IsFoundOr, IsKeptOr, measure_view};
 ghost use Rattle.value_checks.specs.Tables.{IsForm};
 ghost use Rattle.stack_tables.specs.Tables.{IsStackClaim, address, values_in};
 ghost use Rattle.stack_checks.specs.Checked.{IsGivenBack, IsLineAlong, IsLineBehind, IsLineStarted, IsSolvedAlong, IsWay, from, passed_along, to, values_along};
 
 use crate::made::is_line_made;
 use crate::starting::starting_register;
-use crate::ways::{Way, arc_behind, is_line_more, kept_on, line_more, passed_on};
+use crate::ways::{Way, arc_behind, has_line_more, kept_on, line_more, passed_on};
 use stack_tables::{StackClaim, address, arcs, form, is_given_back, line, lines};
 use value_checks::Line;
 use wrapped_intervals::{
-    Arc, Measure, covers, effect, holds, is_difference, line_by, line_of, said_by, solved, without,
+    Arc, Measure, compared, covers, effect, holds, is_difference, line_by, line_of, meet_of,
+    said_by, solved, without,
 };
 
 // ---- over an edge
@@ -85,6 +86,15 @@ fn effect_on(way: &Way<'_>, j: usize) -> Option<u32>
     effect(form(way.claim, j), way.instr)
 }
 
+// Whether a line's interval holds what it was, with so much more.
+fn is_line_more(way: &Way<'_>, j: usize, more: u32) -> bool
+    requires { IsWay way.now }
+    ensures { result ≡ true → values.Covers ((values_along way.now).lines (to way.now) j)
+        (values.sum_with ((values_along way.now).lines (from way.now) j) more) }
+{
+    has_line_more(way, line(way.claim, way.to, j), j, more)
+}
+
 // Whether nothing is added.
 fn is_nothing(adds: u32) -> bool
     ensures { result ≡ true → adds ≡ 0 }
@@ -92,17 +102,48 @@ fn is_nothing(adds: u32) -> bool
     adds == 0
 }
 
-// Whether a line's interval holds what it was, with the number that the instruction adds, or without that of two words that are the same.
+// What a comparison on the way says of a line.
+fn compared_on(way: &Way<'_>, j: usize) -> Option<Arc>
+    requires { IsWay way.now }
+    ensures compared { result ≡ values.compared (values.said way.now.instr (from way.now) (to way.now)) ((values_along way.now).forms j)
+        ((values_along way.now).at (from way.now)) }
+    ensures found { IsFoundOr result }
+{
+    let claim = way.claim;
+    compared(
+        said_by(way.instr, address(claim, way.from), address(claim, way.to)),
+        form(claim, j),
+        arcs(claim, way.from),
+    )
+}
+
+// Whether it holds what it was and what a comparison says of it.
+fn is_line_compared(way: &Way<'_>, j: usize) -> bool
+    requires { IsWay way.now }
+    ensures { result ≡ true → values.Covers ((values_along way.now).lines (to way.now) j)
+        (values.meet_of ((values_along way.now).lines (from way.now) j)
+        (values.compared (values.said way.now.instr (from way.now) (to way.now)) ((values_along way.now).forms j)
+        ((values_along way.now).at (from way.now)))) }
+{
+    let both = meet_of(line(way.claim, way.from, j), compared_on(way, j));
+    covers(line(way.claim, way.to, j), both)
+}
+
+// Whether a line's interval holds what it was, with the number that the instruction adds, without that of two words that are the same, or
+// with what a comparison says of it.
 fn is_line_passed_by(way: &Way<'_>, j: usize, adds: u32) -> bool
     requires way { IsWay way.now }
     requires effect { registers.effect ((values_along way.now).forms j) way.now.instr ≡ Some adds }
     ensures { result ≡ true → values.IsLineCovered (values_along way.now) way.now.instr (from way.now) (to way.now) j }
 {
-    if is_line_more(way, j, j, adds) {
+    if is_line_more(way, j, adds) {
         return true;
     }
     if !is_nothing(adds) {
         return false;
+    }
+    if is_line_compared(way, j) {
+        return true;
     }
     if !is_told_apart(way, j) {
         return false;

@@ -1,17 +1,20 @@
-//! Sums of two registers that an instruction makes of others.
+//! Sums of two registers that an instruction makes of others, and differences that it writes.
 
-ghost use Rattle.std.specs.Prelude.{◌≡◌, ◌*◌, ◌+◌, ◌%◌, ◌^◌, ℕ, true};
+ghost use Rattle.scale_base.specs.declared.instruction.Instr.TheVariants.{Reg};
+ghost use Rattle.scale_base.specs.declared.instruction.RegOp.TheVariants.{Sub};
+ghost use Rattle.std.specs.Prelude.{◌≡◌, ◌<◌, ◌*◌, ◌+◌, ◌%◌, ◌^◌, ℕ, is_some, true};
 ghost use Rattle.bound_laws.specs.Registers.{keeps};
 ghost use Rattle.bound_laws.specs.Values as values;
 ghost use Rattle.stack_laws.specs.Making as making;
-ghost use Rattle.wrapped_intervals.specs.Small.{measure_view};
+ghost use Rattle.wrapped_intervals.specs.Small.{IsKeptOr, measure_view};
 ghost use Rattle.stack_checks.specs.declared.origins.Origin.TheVariants.{Plus, Sum};
-ghost use Rattle.stack_checks.specs.Checked.{IsLineBy, IsLineFrom, IsLineMadeAlong, IsOriginOf, IsSideOf, IsWay, from, to, values_along};
+ghost use Rattle.stack_checks.specs.Checked.{IsLineFrom, IsLineMadeAlong, IsOriginOf, IsSideOf, IsSubtractedAlong, IsSumAlong, IsWay, from, to, values_along};
 
 use crate::origins::{Origin, origin_of};
-use crate::ways::{Way, is_left, is_line_more};
-use stack_tables::{arcs, form, line, lines};
-use wrapped_intervals::{Measure, covers, line_of};
+use crate::ways::{Way, arc_behind, has_line_more, is_left};
+use scale_base::{Instr, RegOp};
+use stack_tables::{arcs, form, held_at, line, lines};
+use wrapped_intervals::{Arc, Measure, covers, line_of};
 
 // The same sum, the other way round.
 fn turned(m: Measure) -> Measure
@@ -86,38 +89,41 @@ fn is_moved(m: Measure, n: Measure) -> bool
         && n.other_factor == m.other_factor
 }
 
-// Whether a line's interval holds what line k says, which is of this form, of a sum that is the same but for its shift.
-fn is_line_of(way: &Way<'_>, j: usize, n: Measure, k: usize, m: Measure) -> bool
+// Whether an interval holds what line k says, which is of this form, of a sum that is the same but for its shift.
+fn is_sum_of(way: &Way<'_>, interval: Option<Arc>, n: Measure, k: usize, m: Measure) -> bool
     requires way { IsWay way.now }
+    requires interval { IsKeptOr interval }
     requires side { IsSideOf way.now (measure_view m) k }
-    ensures { result ≡ true → IsLineBy way.now j (measure_view n) }
+    ensures { result ≡ true → IsSumAlong way.now interval (measure_view n) }
 {
     let more = shift_from(m, n);
     if !is_moved(m, n) {
         return false;
     }
-    is_line_more(way, j, k, more)
+    has_line_more(way, interval, k, more)
 }
 
 // The same, by one of both forms of line k.
-fn is_line_on(way: &Way<'_>, j: usize, n: Measure, k: usize) -> bool
-    requires { IsWay way.now }
-    ensures { result ≡ true → IsLineBy way.now j (measure_view n) }
+fn is_sum_on(way: &Way<'_>, interval: &Option<Arc>, n: Measure, k: usize) -> bool
+    requires way { IsWay way.now }
+    requires interval { IsKeptOr interval.now }
+    ensures { result ≡ true → IsSumAlong way.now interval.now (measure_view n) }
 {
     let m = form(way.claim, k);
-    if is_line_of(way, j, n, k, m) {
+    if is_sum_of(way, *interval, n, k, m) {
         return true;
     }
-    is_line_of(way, j, n, k, turned(m))
+    is_sum_of(way, *interval, n, k, turned(m))
 }
 
 // The same, by some line.
-fn is_line_by(way: &Way<'_>, j: usize, n: Measure) -> bool
-    requires { IsWay way.now }
-    ensures { result ≡ true → IsLineBy way.now j (measure_view n) }
+fn is_sum_by(way: &Way<'_>, interval: &Option<Arc>, n: Measure) -> bool
+    requires way { IsWay way.now }
+    requires interval { IsKeptOr interval.now }
+    ensures { result ≡ true → IsSumAlong way.now interval.now (measure_view n) }
 {
     for known in lines(way.claim, way.from) {
-        if is_line_on(way, j, n, known.form) {
+        if is_sum_on(way, interval, n, known.form) {
             return true;
         }
     }
@@ -134,6 +140,15 @@ fn is_line_before(way: &Way<'_>, j: usize, n: Measure) -> bool
         line(way.claim, way.to, j),
         line_of(n, arcs(way.claim, way.from)),
     )
+}
+
+// The same, by a line.
+fn is_line_by(way: &Way<'_>, j: usize, n: Measure) -> bool
+    requires { IsWay way.now }
+    ensures { result ≡ true → IsSumAlong way.now ((values_along way.now).lines (to way.now) j) (measure_view n) }
+{
+    let interval = line(way.claim, way.to, j);
+    is_sum_by(way, &interval, n)
 }
 
 // The same, by its registers or by a line.
@@ -212,4 +227,73 @@ pub fn is_line_made(way: &Way<'_>, j: usize) -> bool
         return true;
     }
     is_made_of(way, j, turned(m))
+}
+
+// ---- a difference that is written
+
+// The difference of two registers.
+fn difference(first: u8, second: u8) -> Measure
+    ensures { measure_view result ≡ making.difference first second }
+{
+    Measure {
+        register: first,
+        factor: 1,
+        other: second,
+        other_factor: u32::MAX,
+        shift: 0,
+    }
+}
+
+// Whether a register's interval where the way leads holds what a line says of the difference of two registers.
+fn is_difference_by(way: &Way<'_>, r: u8, first: u8, second: u8) -> bool
+    requires way { IsWay way.now }
+    requires register { r < 32 }
+    ensures { result ≡ true → IsSumAlong way.now ((values_along way.now).at (to way.now) r) (making.difference first second) }
+{
+    let interval = arc_behind(way, r);
+    is_sum_by(way, &interval, difference(first, second))
+}
+
+// Whether an interval is known of any number of a register before the instruction.
+fn is_held(way: &Way<'_>, r: u8) -> bool
+    requires { IsWay way.now }
+    ensures { result ≡ true → is_some (values.held ((values_along way.now).at (from way.now)) r) ≡ true }
+{
+    held_at(way.claim, way.from, r).is_some()
+}
+
+// Whether a register's interval holds what a line says of the difference of these registers, which the instruction writes to it.
+fn is_subtracted_from(way: &Way<'_>, r: u8, first: u8, second: u8) -> bool
+    requires way { IsWay way.now }
+    requires register { r < 32 }
+    requires subtracts { way.now.instr ≡ Reg Sub r first second }
+    ensures { result ≡ true → IsSubtractedAlong way.now r }
+{
+    if !is_held(way, second) {
+        return false;
+    }
+    is_difference_by(way, r, first, second)
+}
+
+/// Whether a register's interval holds what a line says of the difference that the instruction writes to it.
+pub fn is_subtracted(way: &Way<'_>, r: u8) -> bool
+    requires way { IsWay way.now }
+    requires register { r < 32 }
+    ensures { result ≡ true → IsSubtractedAlong way.now r }
+{
+    match way.instr {
+        Instr::Reg {
+            op: RegOp::Sub,
+            rd,
+            rs1,
+            rs2,
+        } => {
+            if rd == r {
+                is_subtracted_from(way, r, rs1, rs2)
+            } else {
+                false
+            }
+        }
+        _ => false,
+    }
 }

@@ -10,7 +10,9 @@ ghost use Rattle.stack_tables.specs.Tables.{IsStackClaim, address, named, stacks
 ghost use Rattle.stack_checks.specs.declared.origins.Origin.TheVariants.{Sum};
 ghost use Rattle.stack_checks.specs.Checked.{IsCoveredAlong, IsNamedAlong, IsOriginOf, IsRegisterPassed, IsSpannedAlong, IsWay, from, stacks_along, to, values_along};
 
+use crate::cells::is_cell_loaded;
 use crate::lines::is_solved;
+use crate::made::is_subtracted;
 use crate::origins::{Origin, origin_of};
 use crate::ways::{Way, arc_before, arc_behind, passed_on};
 use stack_tables::{
@@ -42,14 +44,23 @@ pub fn is_covered_by_name(claim: &StackClaim<'_>, n: usize, r: u8) -> bool
     covers(arc_at(claim, n, r), name_arc(claim, n, name(claim, n, r)))
 }
 
-// Whether one of both does.
+// Whether one of both does, or a line of the difference that the instruction writes, or a cell that it loads.
 fn is_covered_over(way: &Way<'_>, r: u8) -> bool
     requires way { IsWay way.now }
     requires register { r < 32 }
     ensures { result ≡ true → stacks.IsCoveredOver (values_along way.now) (stacks_along way.now) way.now.instr (from way.now) (to way.now)
         r }
 {
-    is_covered(way, r) || is_covered_by_name(way.claim, way.to, r)
+    if is_covered(way, r) {
+        return true;
+    }
+    if is_covered_by_name(way.claim, way.to, r) {
+        return true;
+    }
+    if is_subtracted(way, r) {
+        return true;
+    }
+    is_cell_loaded(way, r)
 }
 
 // ---- names

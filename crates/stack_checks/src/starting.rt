@@ -14,6 +14,7 @@ ghost use Rattle.value_checks.specs.Tables.{values_of};
 use crate::confirming::is_confirmed;
 use crate::edges::{is_alive, is_beginning};
 use crate::lines::are_lines_started;
+use crate::memory::are_cells_started;
 use stack_tables::{StackClaim, arc_at, begins};
 use wrapped_intervals::holds;
 
@@ -109,6 +110,9 @@ pub fn is_stack_analysed(claim: &StackClaim<'_>) -> bool
         return false;
     }
     if !is_started(claim) {
+        return false;
+    }
+    if !are_cells_started(claim) {
         return false;
     }
     is_confirmed(claim)

@@ -98,11 +98,11 @@ pub fn line_more(way: &Way<'_>, k: usize, more: u32) -> Option<Arc>
     sum_with(line(way.claim, way.from, k), u64::from(more))
 }
 
-/// Whether the interval of line j holds that where the way leads.
-pub fn is_line_more(way: &Way<'_>, j: usize, k: usize, more: u32) -> bool
-    requires { IsWay way.now }
-    ensures { result ≡ true → values.Covers ((values_along way.now).lines (to way.now) j)
-        (values.sum_with ((values_along way.now).lines (from way.now) k) more) }
+/// Whether an interval holds that.
+pub fn has_line_more(way: &Way<'_>, interval: Option<Arc>, k: usize, more: u32) -> bool
+    requires way { IsWay way.now }
+    requires interval { IsKeptOr interval }
+    ensures { result ≡ true → values.Covers interval (values.sum_with ((values_along way.now).lines (from way.now) k) more) }
 {
-    covers(line(way.claim, way.to, j), line_more(way, k, more))
+    covers(interval, line_more(way, k, more))
 }

@@ -87,6 +87,7 @@ module _ (image : Image) (levels : ℕ) (code : Code) (v : Values) (w : Stacks) 
     spans = λ r is. spanned_covers (w.span image.entry r) (name_span (w.name image.entry r)) fresh (reg s.regs r) (span_named (w.name image.entry r) fresh (reg s.regs r) (names r is)) (ana.beginning.spans r is);
     word_spans = λ k. subst (λ n. IsSpanned n fresh (fresh.words k)) (sym (ana.beginning.word_spans k)) tt;
     begins = ana.begins;
+    cells = ana.cells;
   }
 
 pub shown_kept : ShownBoundsAreKept

@@ -4,8 +4,8 @@ use Rattle.scale_base.specs.declared.instruction.Instr.{Instr}
 use Rattle.scale_base.specs.Arith.{is_taken}
 use Rattle.scale_base.specs.State.{reg}
 use Rattle.bound_laws.specs.Registers.{Measure, measured, keeps, effect}
-use Rattle.bound_laws.specs.Values.{IsHeld, Values, IsSolved, IsCovered, IsLineCovered, IsRegister, AreIn, held, solved, passed, Covers, Said, said, line_of, sum_with, without, is_difference}
-use Rattle.bound_laws.proofs.Laws.{nothing_more, in_covers, sum_with_in, without_in, solved_in, word_of, held_of, line_in, not_shift, measured_small}
+use Rattle.bound_laws.specs.Values.{IsHeld, Values, IsSolved, IsCovered, IsLineCovered, IsRegister, AreIn, held, solved, passed, Covers, Said, said, line_of, sum_with, without, is_difference, compared, meet_of}
+use Rattle.bound_laws.proofs.Laws.{nothing_more, in_covers, sum_with_in, without_in, solved_in, word_of, held_of, line_in, not_shift, compared_in, measured_small, meet_of_in}
 
 abbrev pub IsSo : List ℕ → Option Said → Type 0
 IsSo regs None = Unit {0}
@@ -37,6 +37,12 @@ module _ (v : Values) (registers : (j : ℕ) → IsRegister (v.forms j).register
           let found : IsHeld (solved m (sum_with (v.lines a j) e) (held (passed i a b (v.at a)) m.other)) (reg after r) = subst (λ q. IsHeld (solved m (sum_with (v.lines a j) e) (held (passed i a b (v.at a)) m.other)) (reg after q)) x.2 (solved_in m (sum_with (v.lines a j) e) (held (passed i a b (v.at a)) m.other) after x.3 small line other) in
           in_covers (solved m (sum_with (v.lines a j) e) (held (passed i a b (v.at a)) m.other)) (v.at b r) (reg after r) found x.6
 
+  abbrev IsApartBy : ℕ → ℕ → Type 0
+  IsApartBy j e = (e ≡ 0) × (is_difference (said i a b) (v.forms j) (v.at a) ≡ true) × Covers (v.lines b j) (without (v.lines a j) ((v.forms j).shift % 2 ^ 32))
+
+  abbrev IsComparedBy : ℕ → ℕ → Type 0
+  IsComparedBy j e = (e ≡ 0) × Covers (v.lines b j) (meet_of (v.lines a j) (compared (said i a b) (v.forms j) (v.at a)))
+
   pub line_covered : (j : ℕ) → IsLineCovered v i a b j → IsHeld (v.lines b j) (measured (v.forms j) after)
   line_covered j c =
       let m : Measure = v.forms j in
@@ -44,14 +50,22 @@ module _ (v : Values) (registers : (j : ℕ) → IsRegister (v.forms j).register
       let w : ℕ = measured m after in
       ⊎_elim
       (λ (x : Covers (v.lines b j) (line_of (v.forms j) (passed i a b (v.at a)))). in_covers (line_of m (passed i a b (v.at a))) (v.lines b j) w (line_in m (passed i a b (v.at a)) after (held_of (passed i a b (v.at a)) after zero_after size_after holds)) x)
-      (λ (x : (e : ℕ) × (effect (v.forms j) i ≡ Some e) × (Covers (v.lines b j) (sum_with (v.lines a j) e) ⊎ ((e ≡ 0) × (is_difference (said i a b) (v.forms j) (v.at a) ≡ true) × Covers (v.lines b j) (without (v.lines a j) ((v.forms j).shift % 2 ^ 32))))).
+      (λ (x : (e : ℕ) × (effect (v.forms j) i ≡ Some e) × (Covers (v.lines b j) (sum_with (v.lines a j) e) ⊎ IsApartBy j e ⊎ IsComparedBy j e)).
       let moved : w ≡ (measured m before + x.0) % 2 ^ 32 = adds m x.0 rs.0 rs.1 x.1 in
       ⊎_elim
       (λ (y : Covers (v.lines b j) (sum_with (v.lines a j) x.0)). in_covers (sum_with (v.lines a j) x.0) (v.lines b j) w (subst (λ n. IsHeld (sum_with (v.lines a j) x.0) n) (sym moved) (sum_with_in (v.lines a j) x.0 (measured m before) (now.lines j))) y)
-      (λ (y : (x.0 ≡ 0) × (is_difference (said i a b) (v.forms j) (v.at a) ≡ true) × Covers (v.lines b j) (without (v.lines a j) ((v.forms j).shift % 2 ^ 32))).
-      let still : w ≡ measured m before = moved ∙ (ap (λ e. (measured m before + e) % 2 ^ 32) y.0 ∙ nothing_more (measured m before) (measured_small m before)) in
-      in_covers (without (v.lines a j) (m.shift % 2 ^ 32)) (v.lines b j) w (subst (λ n. IsHeld (without (v.lines a j) (m.shift % 2 ^ 32)) n) (sym still) (without_in (v.lines a j) (m.shift % 2 ^ 32) (measured m before) (now.lines j) (apart_by m (said i a b) so y.1))) y.2) x.2) c
+      (λ (z : IsApartBy j x.0 ⊎ IsComparedBy j x.0). ⊎_elim
+      (λ (y : IsApartBy j x.0).
+      in_covers (without (v.lines a j) (m.shift % 2 ^ 32)) (v.lines b j) w (subst (λ n. IsHeld (without (v.lines a j) (m.shift % 2 ^ 32)) n) (sym (still x.0 moved y.0)) (without_in (v.lines a j) (m.shift % 2 ^ 32) (measured m before) (now.lines j) (apart_by m (said i a b) so y.1))) y.2)
+      (λ (y : IsComparedBy j x.0). in_covers (meet_of (v.lines a j) (compared (said i a b) m (v.at a))) (v.lines b j) w (subst (λ n. IsHeld (meet_of (v.lines a j) (compared (said i a b) m (v.at a))) n) (sym (still x.0 moved y.0)) (meet_of_in (v.lines a j) (compared (said i a b) m (v.at a)) (measured m before) (now.lines j) (compared_by m (said i a b) so))) y.1) z) x.2) c
     where
+      still : (e : ℕ) → measured (v.forms j) after ≡ (measured (v.forms j) before + e) % 2 ^ 32 → e ≡ 0 → measured (v.forms j) after ≡ measured (v.forms j) before
+      still e moved none = moved ∙ (ap (λ n. (measured (v.forms j) before + n) % 2 ^ 32) none ∙ nothing_more (measured (v.forms j) before) (measured_small (v.forms j) before))
+
+      compared_by : (m : Measure) (o : Option Said) → IsSo before o → IsHeld (compared o m (v.at a)) (measured m before)
+      compared_by m None so = tt
+      compared_by m (Some x) so = compared_in x m (v.at a) before (held_of (v.at a) before zero_before size_before now.each) so
+
       apart_by : (m : Measure) (o : Option Said) → IsSo before o → is_difference o m (v.at a) ≡ true → measured m before ≡ m.shift % 2 ^ 32 → ⊥
       apart_by m None so h = let bad : ⊥ = cc in absurd bad
       apart_by m (Some x) so h = not_shift x m (v.at a) before (held_of (v.at a) before zero_before size_before now.each) so h

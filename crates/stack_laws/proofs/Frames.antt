@@ -3,9 +3,11 @@ use Rattle.std.proofs.Common.{◌≡◌, ℕ, ◌+◌, ◌*◌, ◌<◌, ◌≤�
 use Rattle.std.specs.Prelude.{ℤ}
 use Rattle.scale_base.specs.declared.instruction.ImmOp.TheVariants.{Addi}
 use Rattle.scale_base.specs.declared.instruction.RegOp.TheVariants.{Add}
+use Rattle.scale_base.specs.declared.instruction.RegOp.{RegOp}
 use Rattle.scale_base.specs.declared.instruction.Instr.{Instr}
-use Rattle.scale_base.specs.declared.instruction.Instr.TheVariants.{Imm, Reg}
-use Rattle.scale_base.specs.Arith.{plus, unsigned}
+use Rattle.scale_base.specs.declared.instruction.LoadOp.{LoadOp}
+use Rattle.scale_base.specs.declared.instruction.Instr.TheVariants.{Load, Imm, Reg}
+use Rattle.scale_base.specs.Arith.{plus, moved_by, unsigned, loaded, reg_result}
 use Rattle.scale_base.specs.State.{reg, word_at}
 use Rattle.cost_theory.specs.Graph.{Graph}
 use Rattle.code_text.specs.Text.{Text, instr_at}
@@ -13,7 +15,8 @@ use Rattle.bound_laws.specs.Registers.{Measure, measured, keeps, effect}
 use Rattle.bound_laws.specs.Turning.{Leads, Calls}
 use Rattle.bound_laws.specs.Values.{Arc, word, IsHeld, Covers, sum_with, opposite_of, held, said, passed, line_of, IsImpossible, keeps_of, keeps_at, IsRegister, Values, Steps, IsLineCovered, AreBytes}
 use Rattle.bound_laws.proofs.Laws.{only_one, in_covers, in_word, sum_with_in, held_of, line_in}
-use Rattle.stack_laws.specs.Stacks.{IsExactly, known_sum, known_sums, name_span, span_of, IsSpanned, IsSpannedOver, IsWordSpanned, IsSpanBack, IsWordSpanBack, Name, Stacks, View, view_of, word_address, IsNamed, name_of, more_of, name_arc, word_loaded, IsStoredFrom, IsLoadedTo, IsFar, IsMissed, IsDescending, IsSteady, IsNamedOver, IsWordCovered, IsWordNamed, ArePassed, AreEntered, IsRestored, IsSafe, IsNameSafe, IsRegisterBack, IsSumBack, IsNameBack, IsWordBack, IsWordNameBack, AreBack, IsReturned, IsStackInvariant, AreTold}
+use Rattle.stack_laws.specs.Cells.{IsCellHeld}
+use Rattle.stack_laws.specs.Stacks.{IsCellLoaded, IsExactly, known_sum, known_sums, name_span, span_of, IsSpanned, IsSpannedOver, IsWordSpanned, IsSpanBack, IsWordSpanBack, Name, Stacks, View, view_of, word_address, IsNamed, name_of, more_of, name_arc, word_loaded, IsStoredFrom, IsLoadedTo, IsFar, IsMissed, IsDescending, IsSteady, IsNamedOver, IsWordCovered, IsWordNamed, ArePassed, AreEntered, IsRestored, IsSafe, IsNameSafe, IsRegisterBack, IsSumBack, IsNameBack, IsWordBack, IsWordNameBack, AreBack, IsReturned, IsStackInvariant, AreTold}
 use Rattle.stack_laws.specs.Stacks.Name.{of_begin, of_word}
 use Rattle.stack_laws.specs.Stacks.IsNamedOver.{unnamed as none_over, kept as kept_over, summed as summed_over, added as added_over, added_to as added_to_over, loaded as loaded_over, loaded_as as loaded_as_over, stored as stored_over}
 use Rattle.stack_laws.specs.Stacks.IsWordCovered.{any as any_word, kept as kept_word, stored as stored_word, tied as tied_word}
@@ -29,9 +32,10 @@ use Rattle.stack_laws.specs.Stacks.IsWordBack.{any as any_back, kept as kept_bac
 use Rattle.stack_laws.specs.Stacks.IsWordNameBack.{unnamed as none_word_back, kept as kept_name_back}
 use Rattle.stack_laws.proofs.Naming.{twice, spanned_covers, spanned_alike, span_sum, span_sums, span_named, plus_small, mod_same, held_small, held_mod, held_same, is_below, above_below, IsSame, named_in, named_alike, named_mod, more_named, begun_named, word_named, tied_in, name_arc_in, measured_alike}
 use Rattle.stack_laws.proofs.Covering.{IsSo, register_in, line_covered}
-use Rattle.stack_laws.proofs.Making.{line_made}
-use Rattle.stack_laws.specs.Making.{IsLineMade}
+use Rattle.stack_laws.proofs.Making.{line_made, subtracted}
+use Rattle.stack_laws.specs.Making.{IsLineMade, IsSubtracted}
 use Rattle.stack_laws.proofs.Stepping.{load_far, store_keeps}
+use Rattle.stack_laws.proofs.Cells.{cell_loaded}
 
 words_small : (x y z u : ℕ) → x < 256 → y < 256 → z < 256 → u < 256 → x + y * 2 ^ 8 + z * 2 ^ 16 + u * 2 ^ 24 < 2 ^ 32
 words_small x y z u a b c d = omega arith
@@ -142,8 +146,9 @@ module _ (t : Text) (g : Graph) (v : Values) (w : Stacks) (inv : IsStackInvarian
       (far : (y : Option Arc) (q : ℕ) → q < 2 ^ 32 → IsHeld y q → IsFar v a i y → word_at later q ≡ word_at bytes q)
       (name_held : (r : ℕ) → IsNamed (name_of w a r) (view_of w begun before bytes) (reg before r))
       (span_held : (r : ℕ) → IsSpanned (span_of w a r) (view_of w begun before bytes) (reg before r))
-      (totals : (r rs1 rs2 : ℕ) → IsRegister r → i ≡ Reg Add r rs1 rs2 → reg after r ≡ plus (reg before rs1) (reg before rs2))
-      (left : IsLeft a begun bytes later) where
+      (results : (op : RegOp) (r rs1 rs2 : ℕ) → IsRegister r → i ≡ Reg op r rs1 rs2 → reg after r ≡ reg_result op (reg before rs1) (reg before rs2))
+      (left : IsLeft a begun bytes later) (cells : (k : ℕ) → IsCellHeld (w.cell k) later)
+      (reads : (op : LoadOp) (r rs1 : ℕ) (offset : ℤ) → IsRegister r → i ≡ Load op r rs1 offset → reg after r ≡ loaded op bytes (moved_by (reg before rs1) offset)) where
     abbrev now : View
     now = view_of w begun before bytes
 
@@ -189,8 +194,8 @@ module _ (t : Text) (g : Graph) (v : Values) (w : Stacks) (inv : IsStackInvarian
         let missed : (k : ℕ) → IsMissed v w a i k = λ k. subst (λ j. IsMissed v w a j k) (sym e) (inl tt) in
         subst (λ n. IsNamed n then (reg after r)) (sym q) (subst (λ value. IsNamed (more_of (name_of w a rs) (unsigned imm)) then value) (sym (sums r rs imm is e))
         (more_named (name_of w a rs) then (reg before rs) (unsigned imm) (named_in (name_of w a rs) now then (reg before rs) (still (name_of w a rs) missed) (name_held rs))))
-    names_then r is (added_over rs1 rs2 c e x q) = by_total r rs1 c.low rs1 rs2 (totals r rs1 rs2 is e ∙ ap (plus (reg before rs1)) (exact rs2 c x)) e q
-    names_then r is (added_to_over rs1 rs2 c e x q) = by_total r rs2 c.low rs1 rs2 (totals r rs1 rs2 is e ∙ (turned_round (reg before rs1) (reg before rs2) ∙ ap (plus (reg before rs2)) (exact rs1 c x))) e q
+    names_then r is (added_over rs1 rs2 c e x q) = by_total r rs1 c.low rs1 rs2 (results Add r rs1 rs2 is e ∙ ap (plus (reg before rs1)) (exact rs2 c x)) e q
+    names_then r is (added_to_over rs1 rs2 c e x q) = by_total r rs2 c.low rs1 rs2 (results Add r rs1 rs2 is e ∙ (turned_round (reg before rs1) (reg before rs2) ∙ ap (plus (reg before rs2)) (exact rs1 c x))) e q
     names_then r is (loaded_over k l q) =
         let e : reg after r ≡ then.words k = gets k r is l ∙ sym (misses k (load_misses r k l.0)) in
         subst (λ n. IsNamed n then (reg after r)) (sym q) (word_named then k (reg after r) (subst (λ n. n < 2 ^ 32) (sym e) (small_then k)) e)
@@ -227,11 +232,11 @@ module _ (t : Text) (g : Graph) (v : Values) (w : Stacks) (inv : IsStackInvarian
     spans_then r is named (summed_span rs imm e c) = spanned_covers (w.span b r) (known_sum (span_of w a rs) (unsigned imm)) then (reg after r)
         (spanned_alike (known_sum (span_of w a rs) (unsigned imm)) now then (plus (reg before rs) (unsigned imm)) (reg after r) refl (ap (λ n. n % 2 ^ 32) (sums r rs imm is e)) (span_sum (span_of w a rs) now (reg before rs) (unsigned imm) (span_held rs))) c
     spans_then r is named (added_span rs1 rs2 e c) = spanned_covers (w.span b r) (known_sums (span_of w a rs1) (held (v.at a) rs2)) then (reg after r)
-        (spanned_alike (known_sums (span_of w a rs1) (held (v.at a) rs2)) now then (plus (reg before rs1) (reg before rs2)) (reg after r) refl (ap (λ n. n % 2 ^ 32) (totals r rs1 rs2 is e))
+        (spanned_alike (known_sums (span_of w a rs1) (held (v.at a) rs2)) now then (plus (reg before rs1) (reg before rs2)) (reg after r) refl (ap (λ n. n % 2 ^ 32) (results Add r rs1 rs2 is e))
         (span_sums (span_of w a rs1) (held (v.at a) rs2) now (reg before rs1) (reg before rs2) (span_held rs1) (held_before rs2))) c
     spans_then r is named (added_to_span rs1 rs2 e c) = spanned_covers (w.span b r) (known_sums (span_of w a rs2) (held (v.at a) rs1)) then (reg after r)
         (spanned_alike (known_sums (span_of w a rs2) (held (v.at a) rs1)) now then (plus (reg before rs2) (reg before rs1)) (reg after r) refl
-        (ap (λ n. n % 2 ^ 32) (totals r rs1 rs2 is e ∙ turned_round (reg before rs1) (reg before rs2)))
+        (ap (λ n. n % 2 ^ 32) (results Add r rs1 rs2 is e ∙ turned_round (reg before rs1) (reg before rs2)))
         (span_sums (span_of w a rs2) (held (v.at a) rs1) now (reg before rs2) (reg before rs1) (span_held rs2) (held_before rs1))) c
     spans_then r is named (loaded_span k l c) = spanned_covers (w.span b r) (w.word_span a k) then (reg after r)
         (spanned_alike (w.word_span a k) now then (now.words k) (reg after r) refl (ap (λ n. n % 2 ^ 32) (gets k r is l)) (told.word_spans k)) c
@@ -246,7 +251,7 @@ module _ (t : Text) (g : Graph) (v : Values) (w : Stacks) (inv : IsStackInvarian
     line_passed : (j : ℕ) → IsLineCovered v i a b j ⊎ IsLineMade v i a b j → IsHeld (v.lines b j) (measured (v.forms j) after)
     line_passed j c = ⊎_elim
         (λ (x : IsLineCovered v i a b j). line_covered v inv.registers a b i before after kept holds adds so zero_before size_before zero_after size_after told.registers j x)
-        (λ (x : IsLineMade v i a b j). line_made v inv.registers a b i before after kept sums totals zero_before size_before told.registers j x) c
+        (λ (x : IsLineMade v i a b j). line_made v inv.registers a b i before after kept sums results zero_before size_before told.registers j x) c
 
     passed_then : Leads g a b → ArePassed v w i a b → AreTold v w b then
     passed_then leads p = record {
@@ -257,6 +262,7 @@ module _ (t : Text) (g : Graph) (v : Values) (w : Stacks) (inv : IsStackInvarian
       spans = λ r is. spans_then r is (names r is) (p.spans r is);
       word_spans = λ k. word_spans_then k (word_names_then k (p.word_names k)) (p.word_spans k);
       begins = begins;
+      cells = cells;
     }
       where
         names : (r : ℕ) → IsRegister r → IsNamed (w.name b r) then (reg after r)
@@ -270,7 +276,11 @@ module _ (t : Text) (g : Graph) (v : Values) (w : Stacks) (inv : IsStackInvarian
 
         each : (r : ℕ) → IsRegister r → IsHeld (v.at b r) (reg after r)
         each r is = ⊎_elim (register_in v inv.registers a b i before after kept holds adds so zero_before size_before zero_after size_after told.registers r is)
-            (λ (c : Covers (v.at b r) (name_arc v w b (w.name b r))). in_covers (name_arc v w b (w.name b r)) (v.at b r) (reg after r) (name_arc_in v w b (w.name b r) then (reg after r) begins words small_then (names r is)) c) (p.registers r is)
+            (λ (x : Covers (v.at b r) (name_arc v w b (w.name b r)) ⊎ IsSubtracted v i a b r ⊎ IsCellLoaded v w i a b r). ⊎_elim
+            (λ (c : Covers (v.at b r) (name_arc v w b (w.name b r))). in_covers (name_arc v w b (w.name b r)) (v.at b r) (reg after r) (name_arc_in v w b (w.name b r) then (reg after r) begins words small_then (names r is)) c)
+            (λ (y : IsSubtracted v i a b r ⊎ IsCellLoaded v w i a b r). ⊎_elim
+            (λ (c : IsSubtracted v i a b r). subtracted v inv.registers a b i before after kept sums results zero_before size_before told.registers r is c)
+            (λ (c : IsCellLoaded v w i a b r). cell_loaded v w i a b r before after bytes held_before told.cells (λ op rs1 offset. reads op r rs1 offset is) c) y) x) (p.registers r is)
 
     -- over an edge
     pub step_frames : (calls : List ℕ) (xs : List View) → Leads g a b → Steps g a b → Frames a begun bytes calls xs → AreTold v w b then × Frames b begun later calls xs
@@ -294,6 +304,7 @@ module _ (t : Text) (g : Graph) (v : Values) (w : Stacks) (inv : IsStackInvarian
         spans = λ r is. spanned_covers (w.span b r) (name_span (w.name b r)) fresh (reg after r) (span_named (w.name b r) fresh (reg after r) (fresh_names r is)) (e.beginning.spans r is);
         word_spans = λ k. subst (λ n. IsSpanned n fresh (fresh.words k)) (sym (e.beginning.word_spans k)) tt;
         begins = in_covers (v.at a 2) (w.begins (v.function b)) (reg after 2) (subst (IsHeld (v.at a 2)) (sym (kept 2 e.stack)) (told.registers.each 2 two_is)) e.begins;
+        cells = cells;
       },
       (
         record {
@@ -328,7 +339,7 @@ module _ (t : Text) (g : Graph) (v : Values) (w : Stacks) (inv : IsStackInvarian
   -- back from a call at u, by a return at a
   module _ (a b u e : ℕ) (begun before after : List ℕ) (bytes later : ℕ → ℕ) (kept : (r : ℕ) → keeps_at t r a ≡ true → reg after r ≡ reg before r) (zero_after : reg after 0 ≡ 0) (size_after : length after ≡ 32)
       (bytes_after : AreBytes later) (lt : e < g.edges) (from : g.source e ≡ a) (returns : g.returns e ≡ true) (leads : Leads g u b) (calls : List ℕ) (x : View) (xs : List View)
-      (told : AreTold v w a (view_of w begun before bytes)) (left : IsLeft a begun bytes later) (fs : Frames a begun bytes (u ∷ calls) (x ∷ xs)) where
+      (told : AreTold v w a (view_of w begun before bytes)) (left : IsLeft a begun bytes later) (cells : (k : ℕ) → IsCellHeld (w.cell k) later) (fs : Frames a begun bytes (u ∷ calls) (x ∷ xs)) where
     at_return : (r : ℕ) → IsRegister r → IsReturned t v w a r
     at_return r is = subst (λ n. IsReturned t v w n r) from (inv.returns e r lt returns (ap v.live from ∙ told.registers.live) is)
 
@@ -428,6 +439,7 @@ module _ (t : Text) (g : Graph) (v : Values) (w : Stacks) (inv : IsStackInvarian
         spans = λ r is. span_back r is (back.spans r is);
         word_spans = λ k. word_span_back k (back.word_spans k);
         begins = begins;
+        cells = cells;
       },
       frames_along u b x.begun later calls xs leads over.1,
     )

@@ -3,6 +3,7 @@ pub mod Naming
 pub mod Covering
 pub mod Making
 pub mod Stepping
+pub mod Cells
 pub mod Frames
 pub mod Moving
 pub mod Runs

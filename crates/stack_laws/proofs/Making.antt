@@ -1,17 +1,18 @@
--- A sum of two registers behind an instruction is the sum before it of which it is made.
-use Rattle.std.proofs.Common.{◌≡◌, ℕ, ℤ, ◌+◌, ◌*◌, ◌<◌, ◌%◌, ◌^◌, ◌⊎◌, ⊎_elim, Bool, true, false, cond, nat_eq, eqb-true, List, length, refl, sym, ap, ◌∙◌, subst, arith, Option}
+-- A sum of two registers behind an instruction is the sum before it of which it is made, and a difference that it writes is in its lines.
+use Rattle.std.proofs.Common.{◌≡◌, ℕ, ℤ, ◌+◌, ◌-◌, ◌*◌, ◌<◌, ◌%◌, ◌^◌, ⊎_elim, Bool, true, false, cond, nat_eq, eqb-true, List, length, refl, sym, ap, ◌∙◌, subst, arith, Option}
 use Rattle.std.proofs.Math.Nat.{add-mod-mod, mod-add-mod, add-mul}
-use Rattle.std.proofs.lemmas.Nat.{mul-mod_first, mod_below}
+use Rattle.std.proofs.lemmas.Nat.{mul-mod_first}
 use Rattle.scale_base.specs.declared.instruction.ImmOp.TheVariants.{Addi}
-use Rattle.scale_base.specs.declared.instruction.RegOp.TheVariants.{Add}
+use Rattle.scale_base.specs.declared.instruction.RegOp.TheVariants.{Add, Sub}
+use Rattle.scale_base.specs.declared.instruction.RegOp.{RegOp}
 use Rattle.scale_base.specs.declared.instruction.Instr.{Instr}
 use Rattle.scale_base.specs.declared.instruction.Instr.TheVariants.{Imm, Reg}
-use Rattle.scale_base.specs.Arith.{plus, unsigned}
+use Rattle.scale_base.specs.Arith.{plus, unsigned, reg_result}
 use Rattle.scale_base.specs.State.{reg}
 use Rattle.bound_laws.specs.Registers.{Measure, measured, keeps}
-use Rattle.bound_laws.specs.Values.{IsHeld, Values, IsRegister, AreIn, Covers, line_of, sum_with}
-use Rattle.bound_laws.proofs.Laws.{measure_adds, in_covers, sum_with_in, held_of, line_in}
-use Rattle.stack_laws.specs.Making.{turned, moved, taken_for, spread, joined, IsMade, IsSide, IsLineMade}
+use Rattle.bound_laws.specs.Values.{Arc, IsHeld, Values, IsRegister, AreIn, Covers, held, line_of, sum_with}
+use Rattle.bound_laws.proofs.Laws.{measure_adds, in_covers, sum_with_in, word_of, held_of, line_in}
+use Rattle.stack_laws.specs.Making.{turned, moved, taken_for, spread, joined, IsMade, IsSide, IsSumBy, IsLineMade, difference, IsSubtracted}
 use Rattle.stack_laws.specs.Making.IsMade.{summed, added, added_to}
 
 other_order : (s a b : ℕ) → (s + a + b) % 2 ^ 32 ≡ (s + b + a) % 2 ^ 32
@@ -77,10 +78,13 @@ first_summed s f g y z =
 plus_turned : (a b : ℕ) → plus a b ≡ plus b a
 plus_turned a b = omega arith
 
+difference_is : (a b : ℕ) → b < 2 ^ 32 → (0 + 1 * a + (2 ^ 32 - 1) * b) % 2 ^ 32 ≡ (a + (2 ^ 32 - b)) % 2 ^ 32
+difference_is a b small = omega arith
+
 module _ (v : Values) (registers : (j : ℕ) → IsRegister (v.forms j).register × IsRegister (v.forms j).other) (a b : ℕ) (i : Instr) (before after : List ℕ)
     (kept : (r : ℕ) → keeps r i ≡ true → reg after r ≡ reg before r)
     (sums : (r rs : ℕ) (imm : ℤ) → IsRegister r → i ≡ Imm Addi r rs imm → reg after r ≡ plus (reg before rs) (unsigned imm))
-    (totals : (r rs1 rs2 : ℕ) → IsRegister r → i ≡ Reg Add r rs1 rs2 → reg after r ≡ plus (reg before rs1) (reg before rs2))
+    (results : (op : RegOp) (r rs1 rs2 : ℕ) → IsRegister r → i ≡ Reg op r rs1 rs2 → reg after r ≡ reg_result op (reg before rs1) (reg before rs2))
     (zero_before : reg before 0 ≡ 0) (size_before : length before ≡ 32) (now : AreIn v a before) where
   -- by what the first register is behind the instruction
   behind : (m : Measure) (x : ℕ) → keeps m.other i ≡ true → reg after m.register ≡ x → measured m after ≡ (m.shift + m.factor * x + m.other_factor * reg before m.other) % 2 ^ 32
@@ -99,14 +103,23 @@ module _ (v : Values) (registers : (j : ℕ) → IsRegister (v.forms j).register
       ∙ (sym (moved_is (taken_for m rs) (m.factor * unsigned imm) before)
       ∙ (sym (joined_is (moved (taken_for m rs) (m.factor * unsigned imm)) before) ∙ ap (λ (x : Measure). measured x before) (sym n_is))))
   made_is m n register other (added rs is n_is) =
-      of_total m rs other (totals m.register m.other rs register is ∙ plus_turned (reg before m.other) (reg before rs)) ∙ ap (λ (x : Measure). measured x before) (sym n_is)
+      of_total m rs other (results Add m.register m.other rs register is ∙ plus_turned (reg before m.other) (reg before rs)) ∙ ap (λ (x : Measure). measured x before) (sym n_is)
   made_is m n register other (added_to rs is n_is) =
-      of_total m rs other (totals m.register rs m.other register is) ∙ ap (λ (x : Measure). measured x before) (sym n_is)
+      of_total m rs other (results Add m.register rs m.other register is) ∙ ap (λ (x : Measure). measured x before) (sym n_is)
 
   first_of_side : (m f : Measure) → IsSide m f → IsRegister f.register → IsRegister f.other → IsRegister m.register
   first_of_side m f side one two = ⊎_elim
       (λ (e : m ≡ f). subst (λ (x : Measure). IsRegister x.register) (sym e) one)
       (λ (e : m ≡ turned f). subst (λ (x : Measure). IsRegister x.register) (sym e) two) side
+
+  sum_by : (n : Measure) (interval : Option Arc) → IsSumBy v a n interval → IsHeld interval (measured n before)
+  sum_by n interval q =
+      let same : (measured (v.forms q.0) before + q.2) % 2 ^ 32 ≡ measured n before =
+      ap (λ (x : ℕ). (x + q.2) % 2 ^ 32) (sym (side_is q.1 (v.forms q.0) before q.3)) ∙ (sym (moved_is q.1 q.2 before) ∙ ap (λ (x : Measure). measured x before) (sym q.4)) in
+      in_covers (sum_with (v.lines a q.0) q.2) interval (measured n before) (subst (λ (x : ℕ). IsHeld (sum_with (v.lines a q.0) q.2) x) same (sum_with_in (v.lines a q.0) q.2 (measured (v.forms q.0) before) (now.lines q.0))) q.5
+
+  held_before : (r : ℕ) → IsHeld (held (v.at a) r) (reg before r)
+  held_before r = held_of (v.at a) before zero_before size_before now.each r
 
   pub line_made : (j : ℕ) → IsLineMade v i a b j → IsHeld (v.lines b j) (measured (v.forms j) after)
   line_made j made =
@@ -115,8 +128,11 @@ module _ (v : Values) (registers : (j : ℕ) → IsRegister (v.forms j).register
       let n : Measure = made.before in
       let is : measured n before ≡ measured (v.forms j) after = sym (made_is m n (first_of_side m (v.forms j) made.is_side rs.0 rs.1) made.other made.made) ∙ side_is m (v.forms j) after made.is_side in
       subst (λ (x : ℕ). IsHeld (v.lines b j) x) is (⊎_elim
-      (λ (c : Covers (v.lines b j) (line_of n (v.at a))). in_covers (line_of n (v.at a)) (v.lines b j) (measured n before) (line_in n (v.at a) before (held_of (v.at a) before zero_before size_before now.each)) c)
-      (λ (q : (k : ℕ) × (form : Measure) × (more : ℕ) × IsSide form (v.forms k) × (n ≡ moved form more) × Covers (v.lines b j) (sum_with (v.lines a k) more)).
-      let same : (measured (v.forms q.0) before + q.2) % 2 ^ 32 ≡ measured n before =
-      ap (λ (x : ℕ). (x + q.2) % 2 ^ 32) (sym (side_is q.1 (v.forms q.0) before q.3)) ∙ (sym (moved_is q.1 q.2 before) ∙ ap (λ (x : Measure). measured x before) (sym q.4)) in
-      in_covers (sum_with (v.lines a q.0) q.2) (v.lines b j) (measured n before) (subst (λ (x : ℕ). IsHeld (sum_with (v.lines a q.0) q.2) x) same (sum_with_in (v.lines a q.0) q.2 (measured (v.forms q.0) before) (now.lines q.0))) q.5) made.covers)
+      (λ (c : Covers (v.lines b j) (line_of n (v.at a))). in_covers (line_of n (v.at a)) (v.lines b j) (measured n before) (line_in n (v.at a) before held_before) c)
+      (λ (q : IsSumBy v a n (v.lines b j)). sum_by n (v.lines b j) q) made.covers)
+
+  pub subtracted : (r : ℕ) → IsRegister r → IsSubtracted v i a b r → IsHeld (v.at b r) (reg after r)
+  subtracted r is x =
+      let small : reg before x.second < 2 ^ 32 = word_of (held (v.at a) x.second) (reg before x.second) x.word (held_before x.second) in
+      subst (λ (n : ℕ). IsHeld (v.at b r) n) (difference_is (reg before x.first) (reg before x.second) small ∙ sym (results Sub r x.first x.second is x.subtracts))
+      (sum_by (difference x.first x.second) (v.at b r) x.covers)

@@ -22,14 +22,16 @@ use Rattle.bound_laws.specs.Registers.{Measure, measured, keeps, effect}
 use Rattle.bound_laws.specs.Turning.{unasked, Leads, Calls}
 use Rattle.bound_laws.specs.Values.{IsHeld, Values, IsRegister, AreBytes, Said, said, IsImpossible, keeps_of, keeps_at, passed, Steps}
 use Rattle.bound_laws.proofs.Laws.{steps_leave, steps_add, IsSo as SoOf, passed_in, so_behind, possible, step_bytes, At, Way, Onward, fetched, over_edge, into_call, back_to, KeptStep, along, all_returns, measure_adds, nothing_more}
-use Rattle.stack_laws.specs.Stacks.{Stacks, View, view_of, word_address, IsNamed, name_of, IsStoredFrom, IsMissed, IsSparing, IsRestored, IsSafe, IsStackInvariant, AreTold}
+use Rattle.stack_laws.specs.Cells.{IsCellHeld}
+use Rattle.stack_laws.specs.Stacks.{Stacks, View, view_of, word_address, IsNamed, name_of, IsStoredFrom, IsMissed, IsSparing, IsCellKept, IsRestored, IsSafe, IsStackInvariant, AreTold}
 use Rattle.stack_laws.specs.Stacks.Name.{of_word}
 use Rattle.stack_laws.specs.Counting.{Counter, counted, HasRegisters, IsAdded}
 use Rattle.stack_laws.specs.Counting.Counter.{in_registers, in_word}
 use Rattle.stack_laws.specs.Laws.{StackValuesHold}
 use Rattle.std.proofs.lemmas.Nat.{mod_below}
 use Rattle.stack_laws.proofs.Covering.{IsSo}
-use Rattle.stack_laws.proofs.Stepping.{name_held, span_held, totals, far_keeps, misses, spares, puts, gets, sums}
+use Rattle.stack_laws.proofs.Stepping.{name_held, span_held, results, far_keeps, misses, spares, puts, gets, sums}
+use Rattle.stack_laws.proofs.Cells.{cell_kept, reads}
 use Rattle.stack_laws.proofs.Moving.{call_links}
 use Rattle.stack_laws.proofs.Frames.{Frame, Frames, IsLeft, AreAlike, step_frames, call_frames, return_frames, frame, alike, safe_is}
 
@@ -103,6 +105,10 @@ module _ (t : Text) (env : Setting) (ok : IsTextOf t env) (code : Code) (is : Is
     left e lt from k q spared place small above = spares env keyless v w inv.offsets u at.over.zero at.over.size begun now.told i fetch k q
         (subst (λ a. IsSparing v w a i k) from (inv.spares k e i lt (ap v.live from ∙ now.told.registers.live) (ap (w.spared k) from ∙ spared) (ap (instr_at t) from ∙ facts.1))) place small above
 
+    cells : (e : ℕ) → e < g.edges → g.source e ≡ u.pc → (k : ℕ) → IsCellHeld (w.cell k) next.bytes
+    cells e lt from k = cell_kept env keyless v w inv.offsets u at.over.zero at.over.size begun now.told i fetch x went k
+        (subst (λ a. IsCellKept v a i (w.cell k)) from (inv.cells k e i lt (ap v.live from ∙ now.told.registers.live) (ap (instr_at t) from ∙ facts.1)))
+
     -- what the step adds to a counter
     pub counts_on : (c : Counter) (e : ℕ) → HasRegisters c → ((j : Instr) → instr_at t u.pc ≡ Some j → IsAdded v w c u.pc j e) → counted c (view_of w begun next.regs next.bytes) ≡ (counted c (view_of w begun u.regs u.bytes) + e) % 2 ^ 32
     counts_on (in_registers m) e small does = steps_add env u x i m e fetch went (let z = at.over.size in let y = small.0 in omega arith) (let z = at.over.size in let y = small.1 in omega arith) (does i facts.1)
@@ -122,8 +128,8 @@ module _ (t : Text) (env : Setting) (ok : IsTextOf t env) (code : Code) (is : Is
             (misses env keyless v w inv.offsets u at.over.zero at.over.size begun now.told i fetch) (puts env keyless v w inv.offsets u at.over.zero at.over.size begun now.told i fetch x went)
             (gets env keyless v w inv.offsets u at.over.zero at.over.size begun now.told i fetch x went) (sums env keyless v w inv.offsets u at.over.zero at.over.size begun now.told i fetch x went)
             (far_keeps env keyless v w inv.offsets u at.over.zero at.over.size begun now.told i fetch) (name_held env keyless v w inv.offsets u at.over.zero at.over.size begun now.told i fetch)
-            (span_held env keyless v w inv.offsets u at.over.zero at.over.size begun now.told i fetch) (totals env keyless v w inv.offsets u at.over.zero at.over.size begun now.told i fetch x went)
-            (left leads.0 leads.1 leads.2) at.calls xs leads steps now.frames
+            (span_held env keyless v w inv.offsets u at.over.zero at.over.size begun now.told i fetch) (results env keyless v w inv.offsets u at.over.zero at.over.size begun now.told i fetch x went)
+            (left leads.0 leads.1 leads.2) (cells leads.0 leads.1 leads.2) (reads env keyless v w inv.offsets u at.over.zero at.over.size begun now.told i fetch x went) at.calls xs leads steps now.frames
 
     pub call_holds : x.moved ≡ Call → Calls g u.pc next.pc → Holds next (u.pc ∷ at.calls) next.regs (view_of w begun u.regs u.bytes ∷ xs)
     call_holds moved call = record { told = both.0; frames = both.1; memory = bytes }
@@ -133,8 +139,8 @@ module _ (t : Text) (env : Setting) (ok : IsTextOf t env) (code : Code) (is : Is
             (misses env keyless v w inv.offsets u at.over.zero at.over.size begun now.told i fetch) (puts env keyless v w inv.offsets u at.over.zero at.over.size begun now.told i fetch x went)
             (gets env keyless v w inv.offsets u at.over.zero at.over.size begun now.told i fetch x went) (sums env keyless v w inv.offsets u at.over.zero at.over.size begun now.told i fetch x went)
             (far_keeps env keyless v w inv.offsets u at.over.zero at.over.size begun now.told i fetch) (name_held env keyless v w inv.offsets u at.over.zero at.over.size begun now.told i fetch)
-            (span_held env keyless v w inv.offsets u at.over.zero at.over.size begun now.told i fetch) (totals env keyless v w inv.offsets u at.over.zero at.over.size begun now.told i fetch x went)
-            (left call.0 call.2 call.3) at.calls xs (call_links env u i fetch x went at.over.size moved) call now.frames
+            (span_held env keyless v w inv.offsets u at.over.zero at.over.size begun now.told i fetch) (results env keyless v w inv.offsets u at.over.zero at.over.size begun now.told i fetch x went)
+            (left call.0 call.2 call.3) (cells call.0 call.2 call.3) (reads env keyless v w inv.offsets u at.over.zero at.over.size begun now.told i fetch x went) at.calls xs (call_links env u i fetch x went at.over.size moved) call now.frames
 
     -- at a return at least one call is open
     pub back_holds : (z e : ℕ) (us : List ℕ) → at.calls ≡ z ∷ us → e < g.edges → g.source e ≡ u.pc → g.returns e ≡ true → Leads g z next.pc → (y : View) × (rest : List View) × (xs ≡ y ∷ rest) × Holds next us y.begun rest × Returned z y next
@@ -151,8 +157,8 @@ module _ (t : Text) (env : Setting) (ok : IsTextOf t env) (code : Code) (is : Is
             to = f.to;
             call = f.call;
             told = f.told;
-            alike = λ r reg_is res. alike t g v w inv u.pc next.pc z e begun u.regs next.regs u.bytes next.bytes leaves over.zero over.size bytes lt from returns leads us y rest now.told (left e lt from) frames_are r reg_is res;
-            safe = safe_is t g v w inv u.pc next.pc z e begun u.regs next.regs u.bytes next.bytes leaves over.zero over.size bytes lt from returns leads us y rest now.told (left e lt from) frames_are;
+            alike = λ r reg_is res. alike t g v w inv u.pc next.pc z e begun u.regs next.regs u.bytes next.bytes leaves over.zero over.size bytes lt from returns leads us y rest now.told (left e lt from) (cells e lt from) frames_are r reg_is res;
+            safe = safe_is t g v w inv u.pc next.pc z e begun u.regs next.regs u.bytes next.bytes leaves over.zero over.size bytes lt from returns leads us y rest now.told (left e lt from) (cells e lt from) frames_are;
           },
         )
           where
@@ -160,10 +166,10 @@ module _ (t : Text) (env : Setting) (ok : IsTextOf t env) (code : Code) (is : Is
             frames_are = subst (λ ys. Frames t g v w inv u.pc begun u.bytes (z ∷ us) ys) same (subst (λ c. Frames t g v w inv u.pc begun u.bytes c xs) before now.frames)
 
             f : Frame t g v w inv u.pc begun next.bytes z y
-            f = frame t g v w inv u.pc next.pc z e begun u.regs next.regs u.bytes next.bytes leaves over.zero over.size bytes lt from returns leads us y rest now.told (left e lt from) frames_are
+            f = frame t g v w inv u.pc next.pc z e begun u.regs next.regs u.bytes next.bytes leaves over.zero over.size bytes lt from returns leads us y rest now.told (left e lt from) (cells e lt from) frames_are
 
             both : AreTold v w next.pc (view_of w y.begun next.regs next.bytes) × Frames t g v w inv next.pc y.begun next.bytes us rest
-            both = return_frames t g v w inv u.pc next.pc z e begun u.regs next.regs u.bytes next.bytes leaves over.zero over.size bytes lt from returns leads us y rest now.told (left e lt from) frames_are
+            both = return_frames t g v w inv u.pc next.pc z e begun u.regs next.regs u.bytes next.bytes leaves over.zero over.size bytes lt from returns leads us y rest now.told (left e lt from) (cells e lt from) frames_are
 
   module _ (s : State) (over : IsOverText t s) (at_entry : s.pc ≡ t.entry) (l : Loops) (starts : AreTold v w s.pc (view_of w s.regs s.regs s.bytes)) (bytes : AreBytes s.bytes) where
     abbrev pub I : State → List ℕ → Carried → Type 0

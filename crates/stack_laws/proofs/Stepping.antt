@@ -7,21 +7,21 @@ use Rattle.scale_base.specs.declared.instruction.LoadOp.TheVariants.{Lb, Lh, Lw,
 use Rattle.scale_base.specs.declared.instruction.StoreOp.{StoreOp}
 use Rattle.scale_base.specs.declared.instruction.StoreOp.TheVariants.{Sb, Sh, Sw}
 use Rattle.scale_base.specs.declared.instruction.ImmOp.TheVariants.{Addi}
-use Rattle.scale_base.specs.declared.instruction.RegOp.TheVariants.{Add}
+use Rattle.scale_base.specs.declared.instruction.RegOp.{RegOp}
 use Rattle.scale_base.specs.declared.instruction.Instr.{Instr}
 use Rattle.scale_base.specs.declared.instruction.Instr.TheVariants.{Lui, Auipc, Jal, Jalr, Branch, Load, Store, Imm, Reg, Fence, Ecall, Ebreak}
 use Rattle.scale_base.specs.declared.stepping.Stepped.{Stepped}
 use Rattle.scale_base.specs.declared.stepping.StepEnd.TheVariants.{Went}
 use Rattle.scale_base.specs.Reading.{instr_of}
 use Rattle.scale_base.specs.Layout.{can_read, uses_window}
-use Rattle.scale_base.specs.Arith.{plus, moved_by, unsigned, is_taken, load_width, store_width, imm_result}
+use Rattle.scale_base.specs.Arith.{plus, moved_by, unsigned, is_taken, load_width, store_width, imm_result, reg_result}
 use Rattle.scale_base.specs.State.{Setting, State, reg, word_at}
 use Rattle.scale_base.specs.Step.{Outcome, loads, jumps, branches, performs, step}
 use Rattle.bound_laws.specs.Values.{Arc, strided, IsHeld, sum_with, top_of, held, IsRegister, Values}
 use Rattle.bound_laws.specs.Registers.{keeps}
 use Rattle.bound_laws.proofs.Laws.{sum_with_in, below_top, held_of, step_of}
 use Rattle.stack_laws.specs.Stacks.{known_sum, span_of, IsSpanned, stored_span, most_stored, AreBelow, Stacks, View, view_of, word_address, IsNamed, name_of, offset_of, stored_at, loaded_at, width_stored, word_stored, word_loaded, IsStoredFrom, IsLoadedTo, IsApart, AreApart, HasNot, IsFar, IsMissed, IsBelow, IsSparing, AreTold}
-use Rattle.stack_laws.proofs.Stores.{AreOut, apart_out, stores_keep, served_keeps, stores_put, loads_get, put}
+use Rattle.stack_laws.proofs.Stores.{AreOut, AreSame, word_same, apart_out, stores_keep, served_keeps, stores_put, loads_get, put}
 use Rattle.stack_laws.proofs.Naming.{held_small, span_sum, places_apart, span_apart, span_below, plus_small, are_apart, apart_small, less_apart, has_not, is_below, offset_small, offset_is}
 
 module _ (env : Setting) (keyless : env.layout.keyed ≡ None) (v : Values) (w : Stacks) (offsets : (k : ℕ) → w.offset k < 2 ^ 32) (s : State) (zero_is : reg s.regs 0 ≡ 0) (size : length s.regs ≡ 32) (begun : List ℕ)
@@ -32,49 +32,55 @@ module _ (env : Setting) (keyless : env.layout.keyed ≡ None) (v : Values) (w :
   abbrev view : View
   view = view_of w begun s.regs s.bytes
 
-  held_at : (r : ℕ) → IsHeld (held (v.at s.pc) r) (reg s.regs r)
+  pub held_at : (r : ℕ) → IsHeld (held (v.at s.pc) r) (reg s.regs r)
   held_at r = held_of (v.at s.pc) s.regs zero_is size told.registers.each r
 
   pub name_held : (r : ℕ) → IsNamed (name_of w s.pc r) view (reg s.regs r)
   name_held r = cond_both (nat_lt 0 r && nat_lt r 32) (w.name s.pc r) None (λ n. IsNamed n view (reg s.regs r))
       (λ h. let p = and_parts (nat_lt 0 r) (nat_lt r 32) h in told.names r (ltb-true 0 r p.0, ltb-true r 32 p.1)) (λ _. tt)
 
-  abbrev Keeps : ℕ → Outcome → Type 0
-  Keeps q o = word_at o.state.bytes q ≡ word_at s.bytes q
+  abbrev Keeps : ℕ → ℕ → Outcome → Type 0
+  Keeps q n o = AreSame o.state.bytes s.bytes q n
 
   -- what a step stores, by what holds of every store and of the read service
-  keeps_by : (q : ℕ) → q < 2 ^ 32 →
-      ((op : StoreOp) (rs1 rs2 : ℕ) (offset : ℤ) → i ≡ Store op rs1 rs2 offset → moved_by (reg s.regs rs1) offset + store_width op ≤ 2 ^ 32 → AreOut (moved_by (reg s.regs rs1) offset) (store_width op) q) →
-      (i ≡ Ecall → reg s.regs 17 ≡ 63 → (n : ℕ) → n ≤ 256 → n ≤ reg s.regs 12 → reg s.regs 11 + n ≤ 2 ^ 32 → AreOut (reg s.regs 11) n q) → word_at after.bytes q ≡ word_at s.bytes q
-  keeps_by q small stores reads = step_of (Keeps q) env s i here (by i refl) refl
+  pub bytes_by : (q n : ℕ) →
+      ((op : StoreOp) (rs1 rs2 : ℕ) (offset : ℤ) → i ≡ Store op rs1 rs2 offset → moved_by (reg s.regs rs1) offset + store_width op ≤ 2 ^ 32 → AreOut (moved_by (reg s.regs rs1) offset) (store_width op) q n) →
+      (i ≡ Ecall → reg s.regs 17 ≡ 63 → (m : ℕ) → m ≤ 256 → m ≤ reg s.regs 12 → reg s.regs 11 + m ≤ 2 ^ 32 → AreOut (reg s.regs 11) m q n) → AreSame after.bytes s.bytes q n
+  bytes_by q n stores reads = step_of (Keeps q n) env s i here (by i refl) (λ k lt. refl)
     where
-      jump : (rd target : ℕ) → Keeps q (jumps env s i rd target)
-      jump rd target = cond_both (target % 4 == 0) _ _ (Keeps q) (λ _. refl) (λ _. refl)
+      jump : (rd target : ℕ) → Keeps q n (jumps env s i rd target)
+      jump rd target = cond_both (target % 4 == 0) _ _ (Keeps q n) (λ _ k lt. refl) (λ _ k lt. refl)
 
-      branch : (taken : Bool) (target : ℕ) → Keeps q (branches env s i taken target)
-      branch taken target = cond_both taken _ _ (Keeps q) (λ _. cond_both (target % 4 == 0) _ _ (Keeps q) (λ _. refl) (λ _. refl)) (λ _. refl)
+      branch : (taken : Bool) (target : ℕ) → Keeps q n (branches env s i taken target)
+      branch taken target = cond_both taken _ _ (Keeps q n) (λ _. cond_both (target % 4 == 0) _ _ (Keeps q n) (λ _ k lt. refl) (λ _ k lt. refl)) (λ _ k lt. refl)
 
-      load : (op : LoadOp) (rd at : ℕ) → Keeps q (loads env s i op rd at)
+      load : (op : LoadOp) (rd at : ℕ) → Keeps q n (loads env s i op rd at)
       load op rd at =
-          cond_both (not (at % load_width op == 0)) _ _ (Keeps q) (λ _. refl)
-          (λ _. cond_both (uses_window env.layout s.pc at (load_width op)) _ _ (Keeps q) (λ _. refl)
-          (λ _. cond_both (can_read env.layout s.pc at (load_width op)) _ _ (Keeps q) (λ _. refl) (λ _. refl)))
+          cond_both (not (at % load_width op == 0)) _ _ (Keeps q n) (λ _ k lt. refl)
+          (λ _. cond_both (uses_window env.layout s.pc at (load_width op)) _ _ (Keeps q n) (λ _ k lt. refl)
+          (λ _. cond_both (can_read env.layout s.pc at (load_width op)) _ _ (Keeps q n) (λ _ k lt. refl) (λ _ k lt. refl)))
 
-      by : (j : Instr) → i ≡ j → Keeps q (performs env s i j)
-      by (Lui rd imm) e = refl
-      by (Auipc rd imm) e = refl
+      by : (j : Instr) → i ≡ j → Keeps q n (performs env s i j)
+      by (Lui rd imm) e = λ k lt. refl
+      by (Auipc rd imm) e = λ k lt. refl
       by (Jal rd offset) e = jump rd _
       by (Jalr rd rs1 offset) e = jump rd _
       by (Branch op rs1 rs2 offset) e = branch (is_taken op (reg s.regs rs1) (reg s.regs rs2)) (moved_by s.pc offset)
       by (Load op rd rs1 offset) e = load op rd _
-      by (Store op rs1 rs2 offset) e = stores_keep env s q small i op (moved_by (reg s.regs rs1) offset) (reg s.regs rs2) (plus_small (reg s.regs rs1) (unsigned offset)) (stores op rs1 rs2 offset e)
-      by (Imm op rd rs1 imm) e = refl
-      by (Reg op rd rs1 rs2) e = refl
-      by (Fence rd rs1 imm) e = refl
-      by Ecall e = cond_both ((reg s.regs 17 == 93) || (reg s.regs 17 == 94)) _ _ (Keeps q) (λ _. refl) (λ _. served_keeps env s q small (reads e))
-      by Ebreak e = refl
+      by (Store op rs1 rs2 offset) e = stores_keep env s q n i op (moved_by (reg s.regs rs1) offset) (reg s.regs rs2) (plus_small (reg s.regs rs1) (unsigned offset)) (stores op rs1 rs2 offset e)
+      by (Imm op rd rs1 imm) e = λ k lt. refl
+      by (Reg op rd rs1 rs2) e = λ k lt. refl
+      by (Fence rd rs1 imm) e = λ k lt. refl
+      by Ecall e = cond_both ((reg s.regs 17 == 93) || (reg s.regs 17 == 94)) _ _ (Keeps q n) (λ _ k lt. refl) (λ _. served_keeps env s q n (reads e))
+      by Ebreak e = λ k lt. refl
 
-  count_top : (n : ℕ) → n ≤ 256 → n ≤ reg s.regs 12 → n ≤ min 256 (top_of (held (v.at s.pc) 12))
+  -- the same of a word
+  keeps_by : (q : ℕ) →
+      ((op : StoreOp) (rs1 rs2 : ℕ) (offset : ℤ) → i ≡ Store op rs1 rs2 offset → moved_by (reg s.regs rs1) offset + store_width op ≤ 2 ^ 32 → AreOut (moved_by (reg s.regs rs1) offset) (store_width op) q 4) →
+      (i ≡ Ecall → reg s.regs 17 ≡ 63 → (n : ℕ) → n ≤ 256 → n ≤ reg s.regs 12 → reg s.regs 11 + n ≤ 2 ^ 32 → AreOut (reg s.regs 11) n q 4) → word_at after.bytes q ≡ word_at s.bytes q
+  keeps_by q stores reads = word_same after.bytes s.bytes q (bytes_by q 4 stores reads)
+
+  pub count_top : (n : ℕ) → n ≤ 256 → n ≤ reg s.regs 12 → n ≤ min 256 (top_of (held (v.at s.pc) 12))
   count_top n few asked = by (held (v.at s.pc) 12) (held_at 12)
     where
       by : (c : Option Arc) → IsHeld c (reg s.regs 12) → n ≤ min 256 (top_of c)
@@ -83,7 +89,7 @@ module _ (env : Setting) (keyless : env.layout.keyed ≡ None) (v : Values) (w :
 
   -- what is far is kept
   pub far_keeps : (y : Option Arc) (q : ℕ) → q < 2 ^ 32 → IsHeld y q → IsFar v s.pc i y → word_at after.bytes q ≡ word_at s.bytes q
-  far_keeps y q small is far = keeps_by q small
+  far_keeps y q small is far = keeps_by q
       (λ op rs1 rs2 offset e fits.
       let f : AreApart (sum_with (held (v.at s.pc) rs1) (unsigned offset)) (store_width op) y = subst (λ j. IsFar v s.pc j y) e far in
       apart_out (moved_by (reg s.regs rs1) offset) (store_width op) q (plus_small (reg s.regs rs1) (unsigned offset)) small fits
@@ -106,22 +112,22 @@ module _ (env : Setting) (keyless : env.layout.keyed ≡ None) (v : Values) (w :
   not_service o h e = let q : stored_at w s.pc Ecall ≡ Some o = subst (λ j. stored_at w s.pc j ≡ Some o) e h in let bad : ⊥ = cc in bad
 
   near_keeps : (o p : ℕ) → p < 2 ^ 32 → stored_at w s.pc i ≡ Some o → IsApart o (width_stored i) p → word_at after.bytes (plus (reg begun 2) p) ≡ word_at s.bytes (plus (reg begun 2) p)
-  near_keeps o p small h apart = keeps_by (plus (reg begun 2) p) (plus_small (reg begun 2) p)
+  near_keeps o p small h apart = keeps_by (plus (reg begun 2) p)
       (λ op rs1 rs2 offset e fits.
       let f = store_offset op rs1 rs2 offset o e h in
       let width : width_stored i ≡ store_width op = f.2 in
       let apart_so : IsApart (plus (reg begun 2) o) (store_width op) (plus (reg begun 2) p) = places_apart (reg begun 2) o (store_width op) p f.1 small (subst (λ n. IsApart o n p) width apart) in
-      subst (λ at. AreOut at (store_width op) (plus (reg begun 2) p)) (sym f.0)
+      subst (λ at. AreOut at (store_width op) (plus (reg begun 2) p) 4) (sym f.0)
       (apart_out (plus (reg begun 2) o) (store_width op) (plus (reg begun 2) p) (plus_small (reg begun 2) o) (plus_small (reg begun 2) p) (subst (λ at. at + store_width op ≤ 2 ^ 32) f.0 fits) apart_so))
       (λ e. absurd (not_service o h e))
 
   below_keeps : (o q : ℕ) → q < 2 ^ 32 → reg begun 2 ≤ q → stored_at w s.pc i ≡ Some o → IsBelow (w.begins (v.function s.pc)) o (width_stored i) → word_at after.bytes q ≡ word_at s.bytes q
-  below_keeps o q small above h below = keeps_by q small
+  below_keeps o q small above h below = keeps_by q
       (λ op rs1 rs2 offset e fits.
       let f = store_offset op rs1 rs2 offset o e h in
       let b = is_below (w.begins (v.function s.pc)) (reg begun 2) o (width_stored i) told.begins below in
       let c : plus (reg begun 2) o + store_width op ≤ reg begun 2 = subst (λ n. plus (reg begun 2) o + n ≤ reg begun 2) f.2 b.2 in
-      subst (λ at. AreOut at (store_width op) q) (sym f.0) (inl (let d : plus (reg begun 2) o + store_width op ≤ q = omega arith in d)))
+      subst (λ at. AreOut at (store_width op) q 4) (sym f.0) (inl (let d : plus (reg begun 2) o + store_width op ≤ q = omega arith in d)))
       (λ e. absurd (not_service o h e))
 
   -- the same by how far the addresses are above x2
@@ -133,7 +139,7 @@ module _ (env : Setting) (keyless : env.layout.keyed ≡ None) (v : Values) (w :
   eleven = (omega arith, omega arith)
 
   spanned_keeps : (p : ℕ) → p < 2 ^ 32 → AreApart (stored_span v w s.pc i) (most_stored v s.pc i) (Some (strided p 0 0)) → word_at after.bytes (plus (reg begun 2) p) ≡ word_at s.bytes (plus (reg begun 2) p)
-  spanned_keeps p small apart = keeps_by (plus (reg begun 2) p) (plus_small (reg begun 2) p)
+  spanned_keeps p small apart = keeps_by (plus (reg begun 2) p)
       (λ op rs1 rs2 offset e fits.
       let h : AreApart (known_sum (span_of w s.pc rs1) (unsigned offset)) (store_width op) (Some (strided p 0 0)) = subst (λ j. AreApart (stored_span v w s.pc j) (most_stored v s.pc j) (Some (strided p 0 0))) e apart in
       apart_out (moved_by (reg s.regs rs1) offset) (store_width op) (plus (reg begun 2) p) (plus_small (reg s.regs rs1) (unsigned offset)) (plus_small (reg begun 2) p) fits
@@ -141,7 +147,7 @@ module _ (env : Setting) (keyless : env.layout.keyed ≡ None) (v : Values) (w :
       (span_sum (span_of w s.pc rs1) view (reg s.regs rs1) (unsigned offset) (span_held rs1)) h))
       (λ e read m few asked fits.
       let n : ℕ = min 256 (top_of (held (v.at s.pc) 12)) in
-      cond_both (is_some (v.at s.pc 11)) (w.span s.pc 11) None (λ k. AreApart k n (Some (strided p 0 0)) → AreOut (reg s.regs 11) m (plus (reg begun 2) p))
+      cond_both (is_some (v.at s.pc 11)) (w.span s.pc 11) None (λ k. AreApart k n (Some (strided p 0 0)) → AreOut (reg s.regs 11) m (plus (reg begun 2) p) 4)
       (λ some h.
       let low : reg s.regs 11 < 2 ^ 32 = held_small (v.at s.pc 11) (reg s.regs 11) some (told.registers.each 11 eleven) in
       apart_out (reg s.regs 11) m (plus (reg begun 2) p) low (plus_small (reg begun 2) p) fits
@@ -149,7 +155,7 @@ module _ (env : Setting) (keyless : env.layout.keyed ≡ None) (v : Values) (w :
       (λ _ h. absurd h) (subst (λ j. AreApart (stored_span v w s.pc j) (most_stored v s.pc j) (Some (strided p 0 0))) e apart))
 
   spanned_below : (q : ℕ) → q < 2 ^ 32 → reg begun 2 ≤ q → AreBelow (w.begins (v.function s.pc)) (stored_span v w s.pc i) (most_stored v s.pc i) → word_at after.bytes q ≡ word_at s.bytes q
-  spanned_below q small above below = keeps_by q small
+  spanned_below q small above below = keeps_by q
       (λ op rs1 rs2 offset e fits.
       let h : AreBelow (w.begins (v.function s.pc)) (known_sum (span_of w s.pc rs1) (unsigned offset)) (store_width op) = subst (λ j. AreBelow (w.begins (v.function s.pc)) (stored_span v w s.pc j) (most_stored v s.pc j)) e below in
       inl (under (moved_by (reg s.regs rs1) offset) (store_width op) (store_width op) (reg begun 2) q
@@ -157,7 +163,7 @@ module _ (env : Setting) (keyless : env.layout.keyed ≡ None) (v : Values) (w :
       (span_sum (span_of w s.pc rs1) view (reg s.regs rs1) (unsigned offset) (span_held rs1)) h) (omega arith) above))
       (λ e read m few asked fits.
       let n : ℕ = min 256 (top_of (held (v.at s.pc) 12)) in
-      cond_both (is_some (v.at s.pc 11)) (w.span s.pc 11) None (λ k. AreBelow (w.begins (v.function s.pc)) k n → AreOut (reg s.regs 11) m q)
+      cond_both (is_some (v.at s.pc 11)) (w.span s.pc 11) None (λ k. AreBelow (w.begins (v.function s.pc)) k n → AreOut (reg s.regs 11) m q 4)
       (λ some h.
       let low : reg s.regs 11 < 2 ^ 32 = held_small (v.at s.pc 11) (reg s.regs 11) some (told.registers.each 11 eleven) in
       inl (under (reg s.regs 11) n m (reg begun 2) q (span_below (w.begins (v.function s.pc)) (w.span s.pc 11) view (reg s.regs 11) n low told.begins (told.spans 11 eleven) h) (count_top m few asked) above))
@@ -239,9 +245,9 @@ module _ (env : Setting) (keyless : env.layout.keyed ≡ None) (v : Values) (w :
     sums r rs imm is e = step_of (λ o. o.end ≡ Went x → reg o.state.regs r ≡ plus (reg s.regs rs) (unsigned imm)) env s i here
         (λ end. subst (λ j. reg (performs env s i j).state.regs r ≡ plus (reg s.regs rs) (unsigned imm)) (sym e) (put s.regs r (imm_result Addi (reg s.regs rs) imm) is size)) (λ end. let bad : ⊥ = cc in absurd bad) went
 
-    pub totals : (r rs1 rs2 : ℕ) → IsRegister r → i ≡ Reg Add r rs1 rs2 → reg after.regs r ≡ plus (reg s.regs rs1) (reg s.regs rs2)
-    totals r rs1 rs2 is e = step_of (λ o. o.end ≡ Went x → reg o.state.regs r ≡ plus (reg s.regs rs1) (reg s.regs rs2)) env s i here
-        (λ end. subst (λ j. reg (performs env s i j).state.regs r ≡ plus (reg s.regs rs1) (reg s.regs rs2)) (sym e) (put s.regs r (plus (reg s.regs rs1) (reg s.regs rs2)) is size)) (λ end. let bad : ⊥ = cc in absurd bad) went
+    pub results : (op : RegOp) (r rs1 rs2 : ℕ) → IsRegister r → i ≡ Reg op r rs1 rs2 → reg after.regs r ≡ reg_result op (reg s.regs rs1) (reg s.regs rs2)
+    results op r rs1 rs2 is e = step_of (λ o. o.end ≡ Went x → reg o.state.regs r ≡ reg_result op (reg s.regs rs1) (reg s.regs rs2)) env s i here
+        (λ end. subst (λ j. reg (performs env s i j).state.regs r ≡ reg_result op (reg s.regs rs1) (reg s.regs rs2)) (sym e) (put s.regs r (reg_result op (reg s.regs rs1) (reg s.regs rs2)) is size)) (λ end. let bad : ⊥ = cc in absurd bad) went
 
 -- a load stores nothing, and a store changes no register
 pub load_far : (v : Values) (a : ℕ) (y : Option Arc) (i : Instr) (r : ℕ) → word_loaded i ≡ Some r → IsFar v a i y

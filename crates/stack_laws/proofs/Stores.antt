@@ -1,5 +1,5 @@
 -- What a step leaves of the words in memory.
-use Rattle.std.proofs.Common.{◌≡◌, ℕ, ◌+◌, ◌-◌, ◌*◌, ◌/◌, ◌<◌, ◌≤◌, ◌%◌, ◌^◌, ◌⊎◌, inl, inr, ⊎_elim, true, false, List, [], ◌∷◌, length, refl, ap, ◌∙◌, subst, arith, None, get_or-set_same}
+use Rattle.std.proofs.Common.{◌≡◌, ℕ, suc, ◌+◌, ◌-◌, ◌*◌, ◌/◌, ◌<◌, ◌≤◌, ◌%◌, ◌^◌, ◌⊎◌, inl, inr, ⊎_elim, true, false, List, [], ◌∷◌, length, refl, ap, ◌∙◌, subst, arith, None, get_or-set_same}
 use Rattle.std.specs.Prelude.{◌==◌, ◌&&◌, not, nat_lt, nat_le, min, take, drop}
 use Rattle.std.proofs.lemmas.Bool.{cond_both, cond-true, cond-false, eqb-true, eq-eqb, ne_eqb, not-false, and_parts, both_ways, cases_lt, leb-true}
 use Rattle.std.proofs.lemmas.List.{length-take}
@@ -12,7 +12,7 @@ use Rattle.scale_base.specs.declared.stepping.StepEnd.TheVariants.{Went}
 use Rattle.scale_base.specs.Image.{WINDOW_START}
 use Rattle.scale_base.specs.Layout.{can_read, can_write, uses_window, is_keyed, in_option, may_write, reads_byte}
 use Rattle.scale_base.specs.Arith.{store_width, stored}
-use Rattle.scale_base.specs.State.{Setting, State, reg, with_reg, with_byte, with_word, with_list, word_at}
+use Rattle.scale_base.specs.State.{Setting, State, reg, with_reg, with_byte, with_half, with_word, with_list, half_at, word_at}
 use Rattle.scale_base.specs.Service.{served, serves, read_count, write_count}
 use Rattle.scale_base.specs.Step.{Outcome, loads, stores, window_index, port_index}
 use Rattle.bound_laws.specs.Values.{IsRegister}
@@ -24,56 +24,65 @@ byte_out : (bytes : ℕ → ℕ) (at value a : ℕ) → (a ≡ at → ⊥) → w
 unfolding with_byte
 byte_out bytes at value a ne = cond-false _ _ _ (ne_eqb a at ne)
 
-byte_in : (bytes : ℕ → ℕ) (at value : ℕ) → with_byte bytes at value at ≡ value
+pub byte_in : (bytes : ℕ → ℕ) (at value : ℕ) → with_byte bytes at value at ≡ value
 unfolding with_byte
 byte_in bytes at value = cond-true _ _ _ (eq-eqb at at refl)
 
-word_same : (f g : ℕ → ℕ) (q : ℕ) → f q ≡ g q → f (q + 1) ≡ g (q + 1) → f (q + 2) ≡ g (q + 2) → f (q + 3) ≡ g (q + 3) → word_at f q ≡ word_at g q
-word_same f g q a b c d =
-    ap (λ x. x + f (q + 1) * 2 ^ 8 + f (q + 2) * 2 ^ 16 + f (q + 3) * 2 ^ 24) a
-    ∙ (ap (λ x. g q + x * 2 ^ 8 + f (q + 2) * 2 ^ 16 + f (q + 3) * 2 ^ 24) b
-    ∙ (ap (λ x. g q + g (q + 1) * 2 ^ 8 + x * 2 ^ 16 + f (q + 3) * 2 ^ 24) c
-    ∙ ap (λ x. g q + g (q + 1) * 2 ^ 8 + g (q + 2) * 2 ^ 16 + x * 2 ^ 24) d))
+-- so many bytes from an address on are the same
+abbrev pub AreSame : (ℕ → ℕ) → (ℕ → ℕ) → ℕ → ℕ → Type 0
+AreSame f g q n = (i : ℕ) → i < n → f (q + i) ≡ g (q + i)
 
--- an address that is none of the four from q on
-abbrev IsOut : ℕ → ℕ → Type 0
-IsOut at q = (at < q) ⊎ (q + 4 ≤ at)
+pub first_same : (f g : ℕ → ℕ) (q n : ℕ) → 0 < n → AreSame f g q n → f q ≡ g q
+first_same f g q n lt same = subst (λ x. f x ≡ g x) (let e : q + 0 ≡ q = omega arith in e) (same 0 lt)
 
-other : (at q i : ℕ) → i < 4 → IsOut at q → q + i ≡ at → ⊥
-other at q i lt out e = ⊎_elim (λ (l : at < q). let bad : ⊥ = omega arith in bad) (λ (g : q + 4 ≤ at). let bad : ⊥ = omega arith in bad) out
+pub rest_same : (f g : ℕ → ℕ) (q n : ℕ) → AreSame f g q (suc n) → AreSame f g (q + 1) n
+rest_same f g q n same i lt = subst (λ x. f x ≡ g x) (let e : q + suc i ≡ q + 1 + i = omega arith in e) (same (suc i) (omega arith))
 
-word_out : (bytes : ℕ → ℕ) (at value q : ℕ) → IsOut at q → word_at (with_byte bytes at value) q ≡ word_at bytes q
-word_out bytes at value q out = word_same (with_byte bytes at value) bytes q
-    (byte_out bytes at value q (λ e. other at q 0 (omega arith) out (let f : q + 0 ≡ at = omega arith in f)))
-    (byte_out bytes at value (q + 1) (other at q 1 (omega arith) out))
-    (byte_out bytes at value (q + 2) (other at q 2 (omega arith) out))
-    (byte_out bytes at value (q + 3) (other at q 3 (omega arith) out))
+pub word_same : (f g : ℕ → ℕ) (q : ℕ) → AreSame f g q 4 → word_at f q ≡ word_at g q
+word_same f g q same =
+    ap (λ x. x + f (q + 1) * 2 ^ 8 + f (q + 2) * 2 ^ 16 + f (q + 3) * 2 ^ 24) (first_same f g q 4 (omega arith) same)
+    ∙ (ap (λ x. g q + x * 2 ^ 8 + f (q + 2) * 2 ^ 16 + f (q + 3) * 2 ^ 24) (same 1 (omega arith))
+    ∙ (ap (λ x. g q + g (q + 1) * 2 ^ 8 + x * 2 ^ 16 + f (q + 3) * 2 ^ 24) (same 2 (omega arith))
+    ∙ ap (λ x. g q + g (q + 1) * 2 ^ 8 + g (q + 2) * 2 ^ 16 + x * 2 ^ 24) (same 3 (omega arith))))
 
--- so many bytes, none of which is of the word
-abbrev pub AreOut : ℕ → ℕ → ℕ → Type 0
-AreOut at width q = (at + width ≤ q) ⊎ (q + 4 ≤ at)
+-- an address that is none of so many from q on
+abbrev IsOut : ℕ → ℕ → ℕ → Type 0
+IsOut at q n = (at < q) ⊎ (q + n ≤ at)
 
-each_out : (at width q i : ℕ) → i < width → AreOut at width q → IsOut (at + i) q
-each_out at width q i lt out = ⊎_elim (λ (l : at + width ≤ q). inl (let e : at + i < q = omega arith in e)) (λ (g : q + 4 ≤ at). inr (let e : q + 4 ≤ at + i = omega arith in e)) out
+other : (at q n i : ℕ) → i < n → IsOut at q n → q + i ≡ at → ⊥
+other at q n i lt out e = ⊎_elim (λ (l : at < q). let bad : ⊥ = omega arith in bad) (λ (g : q + n ≤ at). let bad : ⊥ = omega arith in bad) out
 
-first_out : (at width q : ℕ) → 0 < width → AreOut at width q → IsOut at q
-first_out at width q lt out = subst (λ n. IsOut n q) (let e : at + 0 ≡ at = omega arith in e) (each_out at width q 0 lt out)
+byte_same : (bytes : ℕ → ℕ) (at value q n : ℕ) → IsOut at q n → AreSame (with_byte bytes at value) bytes q n
+byte_same bytes at value q n out i lt = byte_out bytes at value (q + i) (other at q n i lt out)
 
-stored_out : (op : StoreOp) (bytes : ℕ → ℕ) (at value q : ℕ) → AreOut at (store_width op) q → word_at (stored op bytes at value) q ≡ word_at bytes q
-stored_out Sb bytes at value q out = word_out bytes at _ q (first_out at 1 q (omega arith) out)
-stored_out Sh bytes at value q out = word_out _ (at + 1) _ q (each_out at 2 q 1 (omega arith) out) ∙ word_out bytes at _ q (first_out at 2 q (omega arith) out)
-stored_out Sw bytes at value q out =
-    word_out _ (at + 3) _ q (each_out at 4 q 3 (omega arith) out)
-    ∙ (word_out _ (at + 2) _ q (each_out at 4 q 2 (omega arith) out)
-    ∙ (word_out _ (at + 1) _ q (each_out at 4 q 1 (omega arith) out) ∙ word_out bytes at _ q (first_out at 4 q (omega arith) out)))
+-- so many bytes, none of which is one of n from q on
+abbrev pub AreOut : ℕ → ℕ → ℕ → ℕ → Type 0
+AreOut at width q n = (at + width ≤ q) ⊎ (q + n ≤ at)
 
-list_out : (xs : List ℕ) (bytes : ℕ → ℕ) (at q : ℕ) → AreOut at (length xs) q → word_at (with_list bytes at xs) q ≡ word_at bytes q
+each_out : (at width q n i : ℕ) → i < width → AreOut at width q n → IsOut (at + i) q n
+each_out at width q n i lt out = ⊎_elim (λ (l : at + width ≤ q). inl (let e : at + i < q = omega arith in e)) (λ (g : q + n ≤ at). inr (let e : q + n ≤ at + i = omega arith in e)) out
+
+first_out : (at width q n : ℕ) → 0 < width → AreOut at width q n → IsOut at q n
+first_out at width q n lt out = subst (λ k. IsOut k q n) (let e : at + 0 ≡ at = omega arith in e) (each_out at width q n 0 lt out)
+
+stored_out : (op : StoreOp) (bytes : ℕ → ℕ) (at value q n : ℕ) → AreOut at (store_width op) q n → AreSame (stored op bytes at value) bytes q n
+stored_out Sb bytes at value q n out i lt = byte_same bytes at (value % 256) q n (first_out at 1 q n (omega arith) out) i lt
+stored_out Sh bytes at value q n out i lt =
+    byte_same (with_byte bytes at (value % 256)) (at + 1) (value / 2 ^ 8 % 256) q n (each_out at 2 q n 1 (omega arith) out) i lt
+    ∙ byte_same bytes at (value % 256) q n (first_out at 2 q n (omega arith) out) i lt
+stored_out Sw bytes at value q n out i lt =
+    byte_same (with_byte (with_half bytes at value) (at + 2) (value / 2 ^ 16 % 256)) (at + 3) (value / 2 ^ 24 % 256) q n (each_out at 4 q n 3 (omega arith) out) i lt
+    ∙ (byte_same (with_half bytes at value) (at + 2) (value / 2 ^ 16 % 256) q n (each_out at 4 q n 2 (omega arith) out) i lt
+    ∙ (byte_same (with_byte bytes at (value % 256)) (at + 1) (value / 2 ^ 8 % 256) q n (each_out at 4 q n 1 (omega arith) out) i lt
+    ∙ byte_same bytes at (value % 256) q n (first_out at 4 q n (omega arith) out) i lt))
+
+list_out : (xs : List ℕ) (bytes : ℕ → ℕ) (at q n : ℕ) → AreOut at (length xs) q n → AreSame (with_list bytes at xs) bytes q n
 unfolding with_list
-list_out [] bytes at q out = refl
-list_out (x ∷ xs) bytes at q out = list_out xs (with_byte bytes at x) (at + 1) q later ∙ word_out bytes at x q (first_out at (length (x ∷ xs)) q (omega arith) out)
+list_out [] bytes at q n out i lt = refl
+list_out (x ∷ xs) bytes at q n out i lt = list_out xs (with_byte bytes at x) (at + 1) q n later i lt ∙ byte_same bytes at x q n (first_out at (length (x ∷ xs)) q n (omega arith) out) i lt
   where
-    later : AreOut (at + 1) (length xs) q
-    later = ⊎_elim (λ (l : at + length (x ∷ xs) ≤ q). inl (let e : at + 1 + length xs ≤ q = omega arith in e)) (λ (g : q + 4 ≤ at). inr (let e : q + 4 ≤ at + 1 = omega arith in e)) out
+    later : AreOut (at + 1) (length xs) q n
+    later = ⊎_elim (λ (l : at + length (x ∷ xs) ≤ q). inl (let e : at + 1 + length xs ≤ q = omega arith in e)) (λ (g : q + n ≤ at). inr (let e : q + n ≤ at + 1 = omega arith in e)) out
 
 four_bytes : (value : ℕ) → value % 256 + value / 2 ^ 8 % 256 * 2 ^ 8 + value / 2 ^ 16 % 256 * 2 ^ 16 + value / 2 ^ 24 % 256 * 2 ^ 24 ≡ value % 2 ^ 32
 four_bytes value = omega arith
@@ -91,6 +100,14 @@ less a i j lt e = let bad : ⊥ = omega arith in bad
 least : (a j : ℕ) → 0 < j → a ≡ a + j → ⊥
 least a j lt e = let bad : ⊥ = omega arith in bad
 
+two_of : (value : ℕ) → value % 256 + value / 2 ^ 8 % 256 * 2 ^ 8 ≡ value % 2 ^ 16
+two_of value = omega arith
+
+pub half_in : (bytes : ℕ → ℕ) (at value : ℕ) → half_at (with_half bytes at value) at ≡ value % 2 ^ 16
+half_in bytes at value =
+    ap (λ n. n + with_half bytes at value (at + 1) * 2 ^ 8) (byte_out _ (at + 1) _ at (least at 1 (omega arith)) ∙ byte_in bytes at _)
+    ∙ (ap (λ n. value % 256 + n * 2 ^ 8) (byte_in _ (at + 1) _) ∙ two_of value)
+
 pub word_in : (bytes : ℕ → ℕ) (at value : ℕ) → word_at (with_word bytes at value) at ≡ value % 2 ^ 32
 word_in bytes at value = sum_of_bytes (with_word bytes at value) at (value % 256) (value / 2 ^ 8 % 256) (value / 2 ^ 16 % 256) (value / 2 ^ 24 % 256)
     (byte_out _ (at + 3) _ at (least at 3 (omega arith)) ∙ (byte_out _ (at + 2) _ at (least at 2 (omega arith)) ∙ (byte_out _ (at + 1) _ at (least at 1 (omega arith)) ∙ byte_in bytes at _)))
@@ -101,7 +118,7 @@ word_in bytes at value = sum_of_bytes (with_word bytes at value) at (value % 256
 
 -- ---- addresses modulo 2^32
 
-pub apart_out : (at width q : ℕ) → at < 2 ^ 32 → q < 2 ^ 32 → at + width ≤ 2 ^ 32 → IsApart at width q → AreOut at width q
+pub apart_out : (at width q : ℕ) → at < 2 ^ 32 → q < 2 ^ 32 → at + width ≤ 2 ^ 32 → IsApart at width q → AreOut at width q 4
 apart_out at width q a b fits apart = ⊎_elim
     (λ (l : at < q). inl (before at width q a b l apart.0))
     (λ (g : q ≤ at). ⊎_elim (λ (m : q < at). inr (behind at q a b m apart.1)) (λ (m : at ≤ q). inl (same at width q a b g m apart.0)) (cases_lt q at)) (cases_lt at q)
@@ -128,37 +145,37 @@ aligned_fits Sw at a h = four at a h
 
 -- ---- steps
 
-module _ (env : Setting) (s : State) (q : ℕ) (small : q < 2 ^ 32) where
+module _ (env : Setting) (s : State) (q many : ℕ) where
   abbrev Keeps : Outcome → Type 0
-  Keeps o = word_at o.state.bytes q ≡ word_at s.bytes q
+  Keeps o = AreSame o.state.bytes s.bytes q many
 
-  pub stores_keep : (i : Instr) (op : StoreOp) (at value : ℕ) → at < 2 ^ 32 → (at + store_width op ≤ 2 ^ 32 → AreOut at (store_width op) q) → Keeps (stores env s i op at value)
+  pub stores_keep : (i : Instr) (op : StoreOp) (at value : ℕ) → at < 2 ^ 32 → (at + store_width op ≤ 2 ^ 32 → AreOut at (store_width op) q many) → Keeps (stores env s i op at value)
   stores_keep i op at value low out =
-      cond_both (not (at % store_width op == 0)) _ _ Keeps (λ _. refl)
+      cond_both (not (at % store_width op == 0)) _ _ Keeps (λ _ i lt. refl)
       (λ whole. cond_both (uses_window env.layout s.pc at (store_width op)) _ _ Keeps
-      (λ _. cond_both (not (window_index at == port_index)) _ _ Keeps (λ _. refl)
-      (λ _. cond_both (nat_lt value env.levels) _ _ Keeps (λ _. refl) (λ _. refl)))
+      (λ _. cond_both (not (window_index at == port_index)) _ _ Keeps (λ _ i lt. refl)
+      (λ _. cond_both (nat_lt value env.levels) _ _ Keeps (λ _ i lt. refl) (λ _ i lt. refl)))
       (λ _. cond_both (can_write env.layout at (store_width op)) _ _ Keeps
-      (λ _. stored_out op s.bytes at value q (out (aligned_fits op at low (eqb-true (at % store_width op) 0 (not-false (at % store_width op == 0) whole))))) (λ _. refl)))
+      (λ _. stored_out op s.bytes at value q many (out (aligned_fits op at low (eqb-true (at % store_width op) 0 (not-false (at % store_width op == 0) whole))))) (λ _ i lt. refl)))
 
   -- a read service stores so many bytes at most
-  pub served_keeps : (reg s.regs 17 ≡ 63 → (n : ℕ) → n ≤ 256 → n ≤ reg s.regs 12 → reg s.regs 11 + n ≤ 2 ^ 32 → AreOut (reg s.regs 11) n q) → word_at (served env s).bytes q ≡ word_at s.bytes q
+  pub served_keeps : (reg s.regs 17 ≡ 63 → (n : ℕ) → n ≤ 256 → n ≤ reg s.regs 12 → reg s.regs 11 + n ≤ 2 ^ 32 → AreOut (reg s.regs 11) n q many) → AreSame (served env s).bytes s.bytes q many
   unfolding served
   served_keeps far =
-      let P : State → Type 0 = λ t. word_at t.bytes q ≡ word_at s.bytes q in
+      let P : State → Type 0 = λ t. AreSame t.bytes s.bytes q many in
       cond_both (reg s.regs 17 == 63) _ _ P
-      (λ is. cond_both (not (reg s.regs 10 == 0)) _ _ P (λ _. refl)
-      (λ _. cond_both (not (serves (may_write env.layout) (reg s.regs 11) (read_count env s))) _ _ P (λ _. refl)
+      (λ is. cond_both (not (reg s.regs 10 == 0)) _ _ P (λ _ i lt. refl)
+      (λ _. cond_both (not (serves (may_write env.layout) (reg s.regs 11) (read_count env s))) _ _ P (λ _ i lt. refl)
       (λ fine. reads (far (eqb-true (reg s.regs 17) 63 is)) (not-false (serves (may_write env.layout) (reg s.regs 11) (read_count env s)) fine))))
       (λ _. cond_both (reg s.regs 17 == 64) _ _ P
-      (λ _. cond_both (not (reg s.regs 10 == 1)) _ _ P (λ _. refl)
-      (λ _. cond_both (not (serves (reads_byte env.layout s.pc) (reg s.regs 11) (write_count s))) _ _ P (λ _. refl) (λ _. refl)))
-      (λ _. refl))
+      (λ _. cond_both (not (reg s.regs 10 == 1)) _ _ P (λ _ i lt. refl)
+      (λ _. cond_both (not (serves (reads_byte env.layout s.pc) (reg s.regs 11) (write_count s))) _ _ P (λ _ i lt. refl) (λ _ i lt. refl)))
+      (λ _ i lt. refl))
     where
       xs : List ℕ
       xs = take (read_count env s) (drop s.used env.input)
 
-      reads : ((n : ℕ) → n ≤ 256 → n ≤ reg s.regs 12 → reg s.regs 11 + n ≤ 2 ^ 32 → AreOut (reg s.regs 11) n q) → serves (may_write env.layout) (reg s.regs 11) (read_count env s) ≡ true → word_at (with_list s.bytes (reg s.regs 11) xs) q ≡ word_at s.bytes q
+      reads : ((n : ℕ) → n ≤ 256 → n ≤ reg s.regs 12 → reg s.regs 11 + n ≤ 2 ^ 32 → AreOut (reg s.regs 11) n q many) → serves (may_write env.layout) (reg s.regs 11) (read_count env s) ≡ true → AreSame (with_list s.bytes (reg s.regs 11) xs) s.bytes q many
       reads h fine =
           let e : length xs ≡ min (read_count env s) (length (drop s.used env.input)) = length-take (read_count env s) (drop s.used env.input) in
           let few : length xs ≤ read_count env s = omega arith in
@@ -166,7 +183,7 @@ module _ (env : Setting) (s : State) (q : ℕ) (small : q < 2 ^ 32) where
           let fits : reg s.regs 11 + length xs ≤ 2 ^ 32 = omega arith in
           let small_count : length xs ≤ 256 = omega arith in
           let asked : length xs ≤ reg s.regs 12 = omega arith in
-          list_out xs s.bytes (reg s.regs 11) q (h (length xs) small_count asked fits)
+          list_out xs s.bytes (reg s.regs 11) q many (h (length xs) small_count asked fits)
 
 -- what is put into a register
 pub put : (regs : List ℕ) (rd value : ℕ) → IsRegister rd → length regs ≡ 32 → reg (with_reg regs rd value) rd ≡ value
@@ -176,7 +193,7 @@ put regs rd value is size = ap (λ xs. reg xs rd) (cond-false _ _ _ (ne_eqb rd 0
     high e = let lt : 0 < rd = is.0 in let bad : ⊥ = omega arith in bad
 
 module _ (env : Setting) (keyless : env.layout.keyed ≡ None) (s : State) (i : Instr) where
-  no_window : (to width : ℕ) → uses_window env.layout s.pc to width ≡ true → ⊥
+  pub no_window : (to width : ℕ) → uses_window env.layout s.pc to width ≡ true → ⊥
   no_window to width h =
       let e : is_keyed env.layout s.pc ≡ false = ap (in_option s.pc) keyless in
       let z : uses_window env.layout s.pc to width ≡ false = ap (λ b. b && (width == 4) && nat_le WINDOW_START to) e in

@@ -56,7 +56,8 @@ abbrev pub added_behind : StackCertificate → ℕ → ℕ
 added_behind c a = (c.offset a + c.adds a) % 2 ^ 32
 
 -- What the code has to say of a certificate for the loop with this header and this extent. Each clause is about one edge of the graph.
-pub record IsStackCertificate (t : Text) (g : Graph) (v : Values) (w : Stacks) (header : ℕ) (extent : ℕ → Bool) (c : StackCertificate) : Type 0 where
+pub record IsStackCertificate (t : Text) (g : Graph) (v : Values) (w : Stacks) (header : ℕ) (extent : ℕ → Bool) (c : StackCertificate)
+    : Type 0 where
   pub registers : HasRegisters c.counter
   -- the header is in the body, and begins it
   pub first : c.body header ≡ true

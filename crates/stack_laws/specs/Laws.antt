@@ -5,7 +5,7 @@ use Rattle.scale_base.specs.declared.stepping.Stepped.{Stepped}
 use Rattle.scale_base.specs.declared.stepping.StepEnd.TheVariants.{Went}
 use Rattle.scale_base.specs.State.{Setting, State, reg}
 use Rattle.scale_base.specs.Step.{step}
-use Rattle.scale_base.specs.Image.{Image, image_of}
+use Rattle.scale_base.specs.Image.{Image, image_of, loaded_byte}
 use Rattle.scale_base.specs.Run.{GoesOn, run, run_of, STACK_POINTER}
 use Rattle.cost_theory.specs.Graph.{Loops}
 use Rattle.cost_theory.specs.Reached.{Code}
@@ -18,6 +18,7 @@ use Rattle.graph_runs.specs.Laws.{IsStartOver}
 use Rattle.bound_laws.specs.Turning.{unasked, with_bounds, Calls}
 use Rattle.bound_laws.specs.Values.{IsRegister, Values, IsHeld, AreIn, AreBytes}
 use Rattle.bound_laws.specs.Laws.{starting_registers}
+use Rattle.stack_laws.specs.Cells.{IsCellHeld}
 use Rattle.stack_laws.specs.Stacks.{Stacks, view_of, IsRestored, IsBeginning, IsStackInvariant, AreTold}
 use Rattle.stack_laws.specs.Returning.{ComesBack}
 use Rattle.stack_laws.specs.Counting.{StackCertificate, IsStackCertificate, IsWithin, IsShown}
@@ -72,6 +73,8 @@ pub record IsStackAnalysed (image : Image) (code : Code) (v : Values) (w : Stack
   pub starts : AreIn v image.entry starting_registers
   pub begins : IsHeld (w.begins (v.function image.entry)) STACK_POINTER
   pub plain : image.keyed_segment ≡ None
+  -- the memory with which a run begins
+  pub cells : (c : ℕ) → IsCellHeld (w.cell c) (loaded_byte image)
 
 -- A run of an image that is kept by some bounds is kept by these, where each loop's bound is shown by the code or is no less than the other.
 abbrev pub ShownBoundsAreKept : Type 0

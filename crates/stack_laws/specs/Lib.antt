@@ -1,4 +1,5 @@
 pub mod Making
+pub mod Cells
 pub mod Stacks
 pub mod Counting
 pub mod Returning

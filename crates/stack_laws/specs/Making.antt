@@ -1,13 +1,13 @@
 -- Sums of two registers that an instruction makes of others: by a copy, by a sum with a number, or by a sum of which the other register is
--- a part.
-use Rattle.std.specs.Prelude.{◌≡◌, ℕ, ℤ, ◌+◌, ◌*◌, ◌%◌, ◌^◌, ◌⊎◌, ◌==◌, true, if◌then◌else◌}
+-- a part. And a difference of two registers that an instruction writes.
+use Rattle.std.specs.Prelude.{◌≡◌, ℕ, ℤ, ◌+◌, ◌-◌, ◌*◌, ◌%◌, ◌^◌, ◌⊎◌, ◌==◌, true, Option, is_some, if◌then◌else◌}
 use Rattle.scale_base.specs.declared.instruction.ImmOp.TheVariants.{Addi}
-use Rattle.scale_base.specs.declared.instruction.RegOp.TheVariants.{Add}
+use Rattle.scale_base.specs.declared.instruction.RegOp.TheVariants.{Add, Sub}
 use Rattle.scale_base.specs.declared.instruction.Instr.{Instr}
 use Rattle.scale_base.specs.declared.instruction.Instr.TheVariants.{Imm, Reg}
 use Rattle.scale_base.specs.Arith.{unsigned}
 use Rattle.bound_laws.specs.Registers.{Measure, keeps}
-use Rattle.bound_laws.specs.Values.{Values, Covers, line_of, sum_with}
+use Rattle.bound_laws.specs.Values.{Arc, Values, Covers, held, line_of, sum_with}
 
 -- the same sum, the other way round
 abbrev pub turned : Measure → Measure
@@ -15,7 +15,13 @@ turned m = record { register = m.other; factor = m.other_factor; other = m.regis
 
 -- the same sum with so much more
 abbrev pub moved : Measure → ℕ → Measure
-moved m more = record { register = m.register; factor = m.factor; other = m.other; other_factor = m.other_factor; shift = (m.shift + more) % 2 ^ 32 }
+moved m more = record {
+  register = m.register;
+  factor = m.factor;
+  other = m.other;
+  other_factor = m.other_factor;
+  shift = (m.shift + more) % 2 ^ 32;
+}
 
 -- the same sum of another first register
 abbrev pub taken_for : Measure → ℕ → Measure
@@ -23,12 +29,25 @@ taken_for m r = record { register = r; factor = m.factor; other = m.other; other
 
 -- the same sum with the first register's factor on both
 abbrev pub spread : Measure → ℕ → Measure
-spread m r = record { register = r; factor = m.factor; other = m.other; other_factor = (m.factor + m.other_factor) % 2 ^ 32; shift = m.shift }
+spread m r = record {
+  register = r;
+  factor = m.factor;
+  other = m.other;
+  other_factor = (m.factor + m.other_factor) % 2 ^ 32;
+  shift = m.shift;
+}
 
 -- both factors in one, where both registers are the same
 abbrev pub joined : Measure → Measure
 joined m =
-    if m.register == m.other then record { register = m.register; factor = (m.factor + m.other_factor) % 2 ^ 32; other = m.other; other_factor = 0; shift = m.shift }
+    if m.register == m.other
+    then record {
+      register = m.register;
+      factor = (m.factor + m.other_factor) % 2 ^ 32;
+      other = m.other;
+      other_factor = 0;
+      shift = m.shift;
+    }
     else m
 
 -- what a sum, whose first register the instruction writes and whose other one it leaves, is of the registers before it
@@ -42,6 +61,12 @@ pub data IsMade (m : Measure) (i : Instr) (n : Measure) : Type 0 where
 abbrev pub IsSide : Measure → Measure → Type 0
 IsSide m f = (m ≡ f) ⊎ (m ≡ turned f)
 
+-- an interval of a sum before the instruction, by a line of the sum but for a number
+abbrev pub IsSumBy : Values → ℕ → Measure → Option Arc → Type 0
+IsSumBy v a n interval =
+    (k : ℕ) × (form : Measure) × (more : ℕ) × IsSide form (v.forms k) × (n ≡ moved form more)
+    × Covers interval (sum_with (v.lines a k) more)
+
 -- a line's interval at b: by the sum that the instruction makes it of, or by a line of that but for a number
 pub record IsLineMade (v : Values) (i : Instr) (a b j : ℕ) : Type 0 where
   pub side : Measure
@@ -49,6 +74,16 @@ pub record IsLineMade (v : Values) (i : Instr) (a b j : ℕ) : Type 0 where
   pub other : keeps side.other i ≡ true
   pub before : Measure
   pub made : IsMade side i before
-  pub covers : Covers (v.lines b j) (line_of before (v.at a)) ⊎
-      ((k : ℕ) × (form : Measure) × (more : ℕ) × IsSide form (v.forms k) × (before ≡ moved form more) ×
-      Covers (v.lines b j) (sum_with (v.lines a k) more))
+  pub covers : Covers (v.lines b j) (line_of before (v.at a)) ⊎ IsSumBy v a before (v.lines b j)
+
+-- the difference of two registers
+abbrev pub difference : ℕ → ℕ → Measure
+difference first second = record { register = first; factor = 1; other = second; other_factor = 2 ^ 32 - 1; shift = 0 }
+
+-- a register's interval at b: by a line, but for a number, of the difference that the instruction writes, where the second number is a word
+pub record IsSubtracted (v : Values) (i : Instr) (a b r : ℕ) : Type 0 where
+  pub first : ℕ
+  pub second : ℕ
+  pub subtracts : i ≡ Reg Sub r first second
+  pub word : is_some (held (v.at a) second) ≡ true
+  pub covers : IsSumBy v a (difference first second) (v.at b r)

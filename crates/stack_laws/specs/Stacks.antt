@@ -2,6 +2,7 @@
 -- confirm edge by edge. Functions store registers below what x2 has when they begin, and load them from there before they return (RISC-V
 -- ABIs Specification, Integer Calling Convention); nothing here rests on that convention.
 use Rattle.std.specs.Prelude.{◌≡◌, ℕ, ℤ, ◌+◌, ◌%◌, ◌^◌, ◌<◌, ◌≤◌, ◌⊎◌, ◌==◌, ◌&&◌, nat_lt, min, Bool, true, List, Option, Some, None, is_some, if◌then◌else◌}
+use Rattle.scale_base.specs.declared.instruction.LoadOp.{LoadOp}
 use Rattle.scale_base.specs.declared.instruction.LoadOp.TheVariants.{Lw}
 use Rattle.scale_base.specs.declared.instruction.StoreOp.TheVariants.{Sw}
 use Rattle.scale_base.specs.declared.instruction.ImmOp.TheVariants.{Addi}
@@ -15,7 +16,8 @@ use Rattle.code_text.specs.Text.{Text, instr_at}
 use Rattle.bound_laws.specs.Registers.{keeps}
 use Rattle.bound_laws.specs.Turning.{Leads, Calls}
 use Rattle.bound_laws.specs.Values.{Arc, IsIn, ahead, strided, word, exactly, top_of, sum_of, sum_with, opposite_of, held, IsHeld, Covers, said, passed, line_of, IsImpossible, keeps_at, IsRegister, Values, Steps, IsCovered, IsLineCovered, AreIn}
-use Rattle.stack_laws.specs.Making.{IsLineMade}
+use Rattle.stack_laws.specs.Making.{IsLineMade, IsSubtracted}
+use Rattle.stack_laws.specs.Cells.{Cell, IsCellHeld, IsBeside, IsStoredInto, IsLoadedFrom}
 
 -- ---- where values come from
 
@@ -46,18 +48,21 @@ pub record Stacks : Type 0 where
   -- By number of a word and address: from here on up to the function's return nothing is stored to the word of a function that waits, in what
   -- is called neither.
   pub spared : ℕ → ℕ → Bool
+  -- by number, numbers in memory that are always in an interval
+  pub cell : ℕ → Option Cell
 
--- What the code of a function sees: the registers, the words of its stack by number, and the registers when it began.
+-- What the code of a function sees: the registers, the words of its stack by number, the registers when it began, and memory.
 pub record View : Type 0 where
   pub regs : List ℕ
   pub words : ℕ → ℕ
   pub begun : List ℕ
+  pub bytes : ℕ → ℕ
 
 abbrev pub word_address : Stacks → List ℕ → ℕ → ℕ
 word_address w begun k = plus (reg begun 2) (w.offset k)
 
 abbrev pub view_of : Stacks → List ℕ → List ℕ → (ℕ → ℕ) → View
-view_of w begun regs bytes = record { regs = regs; words = λ k. word_at bytes (word_address w begun k); begun = begun }
+view_of w begun regs bytes = record { regs = regs; words = λ k. word_at bytes (word_address w begun k); begun = begun; bytes = bytes }
 
 -- what the name is about, and how much more the value is
 abbrev pub origin : Name → View → ℕ
@@ -205,6 +210,22 @@ IsSparing v w a i k =
     ⊎ ((o : ℕ) × (stored_at w a i ≡ Some o) × IsBelow (w.begins (v.function a)) o (width_stored i))
     ⊎ AreBelow (w.begins (v.function a)) (stored_span v w a i) (most_stored v a i)
 
+-- What the instruction at a stores misses the bytes of a cell, by the intervals of registers.
+abbrev pub IsClear : Values → ℕ → Instr → Cell → Type 0
+IsClear v a (Store op rs1 rs2 offset) c = IsBeside (sum_with (held (v.at a) rs1) (unsigned offset)) (store_width op) c
+IsClear v a Ecall c = HasNot (held (v.at a) 17) 63 ⊎ IsBeside (held (v.at a) 11) (min 256 (top_of (held (v.at a) 12))) c
+IsClear v a i c = Unit {0}
+
+-- or it is a number of the cell's interval, which is stored there
+abbrev pub IsPutInto : Values → ℕ → Instr → Cell → Type 0
+IsPutInto v a (Store op rs1 rs2 offset) c =
+    IsStoredInto (sum_with (held (v.at a) rs1) (unsigned offset)) (store_width op) (held (v.at a) rs2) c
+IsPutInto v a i c = ⊥
+
+abbrev pub IsCellKept : Values → ℕ → Instr → Option Cell → Type 0
+IsCellKept v a i None = Unit {0}
+IsCellKept v a i (Some c) = IsClear v a i c ⊎ IsPutInto v a i c
+
 -- x2 is not above what it had when the function began
 abbrev pub IsDescending : Values → Stacks → ℕ → ℕ → Type 0
 IsDescending v w a more = (w.name a 2 ≡ Some (of_begin 2 more)) × IsBelow (w.begins (v.function a)) more 0
@@ -217,9 +238,23 @@ IsSteady v w a i None = Unit {0}
 IsSteady v w a i (Some (of_begin r more)) = Unit {0}
 IsSteady v w a i (Some (of_word k more)) = IsMissed v w a i k
 
--- a register's interval at b: as in an invariant of intervals, or by its name
+-- a register's interval at b: that of a cell that is loaded
+pub record IsCellLoaded (v : Values) (w : Stacks) (i : Instr) (a b r : ℕ) : Type 0 where
+  pub number : ℕ
+  pub cell : Cell
+  pub cell_is : w.cell number ≡ Some cell
+  pub op : LoadOp
+  pub rs1 : ℕ
+  pub offset : ℤ
+  pub loads : i ≡ Load op r rs1 offset
+  pub loaded : IsLoadedFrom op (sum_with (held (v.at a) rs1) (unsigned offset)) cell
+  pub covers : Covers (v.at b r) (Some cell.values)
+
+-- a register's interval at b: as in an invariant of intervals, by its name, by a line of the difference that the instruction writes, or by
+-- a cell that it loads
 abbrev pub IsCoveredOver : Values → Stacks → Instr → ℕ → ℕ → ℕ → Type 0
-IsCoveredOver v w i a b r = IsCovered v i a b r ⊎ Covers (v.at b r) (name_arc v w b (w.name b r))
+IsCoveredOver v w i a b r =
+    IsCovered v i a b r ⊎ Covers (v.at b r) (name_arc v w b (w.name b r)) ⊎ IsSubtracted v i a b r ⊎ IsCellLoaded v w i a b r
 
 -- the register holds this number alone
 abbrev pub IsExactly : Values → ℕ → ℕ → Arc → Type 0
@@ -387,6 +422,8 @@ pub record IsStackInvariant (t : Text) (g : Graph) (v : Values) (w : Stacks) : T
       IsDescending v w a more
   pub spares : (k e : ℕ) (i : Instr) → e < g.edges → v.live (g.source e) ≡ true → w.spared k (g.source e) ≡ true →
       instr_at t (g.source e) ≡ Some i → IsSparing v w (g.source e) i k
+  pub cells : (c e : ℕ) (i : Instr) → e < g.edges → v.live (g.source e) ≡ true → instr_at t (g.source e) ≡ Some i →
+      IsCellKept v (g.source e) i (w.cell c)
 
 -- all that the tables say is so of a view at an address
 pub record AreTold (v : Values) (w : Stacks) (a : ℕ) (x : View) : Type 0 where
@@ -397,3 +434,4 @@ pub record AreTold (v : Values) (w : Stacks) (a : ℕ) (x : View) : Type 0 where
   pub spans : (r : ℕ) → IsRegister r → IsSpanned (w.span a r) x (reg x.regs r)
   pub word_spans : (k : ℕ) → IsSpanned (w.word_span a k) x (x.words k)
   pub begins : IsHeld (w.begins (v.function a)) (reg x.begun 2)
+  pub cells : (c : ℕ) → IsCellHeld (w.cell c) x.bytes

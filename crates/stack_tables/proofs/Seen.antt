@@ -1,6 +1,6 @@
 -- What the tables say at an address is what stands at the number of its node.
 use Rattle.std.proofs.Common.{◌≡◌, ℕ, zero, suc, ◌+◌, ◌*◌, ◌<◌, ◌≤◌, ◌∷◌, false, List, [], length, get_or, Option, Some, None, refl, sym, subst, ap, ◌∙◌}
-use Rattle.std.specs.Prelude.{slice_get, IfSome, Vec}
+use Rattle.std.specs.Prelude.{slice_get, option_map, IfSome, Vec}
 use Rattle.std.specs.declared.alloc.Global.{Global}
 use Rattle.std.proofs.lemmas.List.{length-map}
 use Rattle.std.proofs.lemmas.Option.{get_or_from_slice_get, slice_get-get_or, slice_get_past}
@@ -14,7 +14,7 @@ use Rattle.value_checks.specs.Tables.{beside, or_other, flag, form_in, line_in, 
 use Rattle.stack_tables.specs.declared.tables.Name.{Name}
 use Rattle.stack_tables.specs.declared.tables.Word.{Word}
 use Rattle.stack_tables.specs.declared.claims.StackClaim.{StackClaim}
-use Rattle.stack_tables.specs.Tables.{IsStackClaim, IsUnknown, address, claim_text, named, name_in, rows_view, arc_of, name_of_word, span_of_word, stacks_in, text_in, values_in, words_at}
+use Rattle.stack_tables.specs.Tables.{IsStackClaim, IsUnknown, address, cell_view, claim_text, named, name_in, rows_view, arc_of, name_of_word, span_of_word, stacks_in, text_in, values_in, words_at}
 use Rattle.value_checks.proofs.Laws.{beside_is}
 
 pub there : (c : StackClaim) (k : ℕ) → k < length c.graph.now.code.nodes → slice_get c.graph.now.code.nodes k ≡ Some (address c k)
@@ -105,6 +105,10 @@ spared_seen c is k j lt = seen false c is c.stack.now.spared.items is.stacks.spa
 pub place_seen : (c : StackClaim) (j : ℕ) → c.stack.now.place ≡ (stacks_in c).place j
 unfolding stacks_in
 place_seen c j = refl
+
+pub cells_seen : (c : StackClaim) (j : ℕ) → option_map cell_view (slice_get c.stack.now.cells.items j) ≡ (stacks_in c).cell j
+unfolding stacks_in
+cells_seen c j = refl
 
 pub instr_seen : (c : StackClaim) (k at : ℕ) (found : Option Instr) → at ≡ address c k → IfSome found (λ i. text.instr_at (claim_text c) at ≡ Some i) → IfSome found (λ i. text.instr_at (text_in c) (address c k) ≡ Some i)
 unfolding text_in

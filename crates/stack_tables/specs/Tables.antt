@@ -1,23 +1,27 @@
 -- Scaffold: a table of stacks as what `stack_laws` calls stacks: by address what stands beside it in the list of nodes, by register what stands in the
 -- row, and by number of a word what stands in the row of words.
-use Rattle.std.specs.Prelude.{◌≡◌, ℕ, ◌+◌, ◌*◌, ◌≤◌, false, List, [], length, slice_get, slice_index, map, option_map, option_and_then, Option, Some, None, Ok, Vec}
+use Rattle.std.specs.Prelude.{◌≡◌, ℕ, ◌+◌, ◌*◌, ◌^◌, ◌≤◌, ◌⊎◌, false, List, [], length, slice_get, slice_index, map, option_map, option_and_then, Option, Some, None, Ok, Vec}
 use Rattle.std.specs.List.{All}
 use Rattle.std.specs.declared.alloc.Global.{Global}
+use Rattle.scale_base.specs.declared.instruction.Instr.{Instr}
 use Rattle.scale_base.specs.Image.{image_of}
 use Rattle.cost_theory.specs.Reached.{Code}
 use Rattle.code_text.specs.Text.{Text, text_of}
 use Rattle.flow_graph.specs.FlowGraph.{IsGraphOf}
 use Rattle.bound_laws.specs.Registers.{Measure}
 use Rattle.bound_laws.specs.Values.{Values, Arc, opposite_of}
+use Rattle.stack_laws.specs.Cells as cells
 use Rattle.stack_laws.specs.Stacks as stacks
 use Rattle.stack_laws.specs.Stacks.{Stacks}
 use Rattle.stack_laws.specs.Stacks.Name.{of_begin, of_word}
-use Rattle.wrapped_intervals.specs.Small.{row, IsKeptOr}
+use Rattle.wrapped_intervals.specs.Small.{row, IsKept, IsKeptOr, IsFoundOr}
 use Rattle.value_checks.specs.Tables.{beside, or_other, flag, values_of, AreSized}
+use Rattle.stack_tables.specs.declared.tables.Cell.{Cell}
 use Rattle.stack_tables.specs.declared.tables.Name.{Name}
 use Rattle.stack_tables.specs.declared.tables.Name.TheVariants.{OfBegin, OfWord}
 use Rattle.stack_tables.specs.declared.tables.Word.{Word}
 use Rattle.stack_tables.specs.declared.tables.StackTable.{StackTable}
+use Rattle.stack_tables.specs.declared.memory.Storing.{Storing}
 use Rattle.stack_tables.specs.declared.claims.StackClaim.{StackClaim}
 
 abbrev pub name_view : Name → stacks.Name
@@ -50,6 +54,9 @@ rows_view rows = map (λ (words : Vec Word Global). words.items) rows
 abbrev pub words_at : Code → StackTable → ℕ → List Word
 words_at code stack a = beside [] code.nodes (rows_view stack.words.items) a
 
+abbrev pub cell_view : Cell → cells.Cell
+cell_view c = record { at = c.at; width = c.width; values = c.values }
+
 abbrev pub stacks_of : Code → StackTable → Stacks
 stacks_of code stack = record {
   name = λ a r. named (name_in (beside [] code.nodes stack.names.items a) r);
@@ -62,6 +69,7 @@ stacks_of code stack = record {
   restored = λ f r. flag (or_other [] (slice_get stack.restored.items f)) r;
   place = λ k. stack.place;
   spared = λ k a. beside false code.nodes stack.spared.items a;
+  cell = λ j. option_map cell_view (slice_get stack.cells.items j);
 }
 
 -- the intervals of a word are short enough to be kept
@@ -77,6 +85,9 @@ pub record IsRowOfWords (words : List Word) : Type 0 where
 abbrev pub IsRowOf : Vec Word Global → Type 0
 IsRowOf words = IsRowOfWords words.items
 
+abbrev pub HasKeptValues : Cell → Type 0
+HasKeptValues c = IsKept c.values
+
 -- a table with a row for each node and each function, all of them short enough to be kept
 pub record AreStacksSized (code : Code) (stack : StackTable) : Type 0 where
   pub names : length stack.names.items ≡ length code.nodes
@@ -89,6 +100,8 @@ pub record AreStacksSized (code : Code) (stack : StackTable) : Type 0 where
   pub words_kept : All IsRowOf stack.words.items
   pub begins_kept : All IsKeptOr stack.begins.items
   pub place_kept : IsKeptOr stack.place
+  pub cells_few : length stack.cells.items ≤ 1024
+  pub cells_kept : All HasKeptValues stack.cells.items
 
 -- two tables with their numbers for a program
 pub record IsStackClaim (c : StackClaim) : Type 0 where
@@ -129,3 +142,20 @@ pub record IsUnknown (w : Stacks) (a k : ℕ) : Type 0 where
 -- a line at an address is of this form, and has this interval
 abbrev pub IsLineOf : Values → ℕ → Measure → Arc → Type 0
 IsLineOf v a m arc = (j : ℕ) × (v.forms j ≡ m) × (v.lines a j ≡ Some arc)
+
+-- ---- what is stored
+
+-- the intervals of what is stored are as they are found
+pub record IsStoring (s : Storing) : Type 0 where
+  pub place : IsFoundOr s.place
+  pub width : s.width ≤ 2 ^ 32
+  pub numbers : IsFoundOr s.numbers
+
+-- it misses a cell, or is one of its numbers
+abbrev pub IsKeptBy : Option Storing → cells.Cell → Type 0
+IsKeptBy None c = Unit {0}
+IsKeptBy (Some s) c = cells.IsBeside s.place s.width c ⊎ cells.IsStoredInto s.place s.width s.numbers c
+
+-- the instruction at a stores this at most
+abbrev pub IsStoredBy : Values → ℕ → Instr → Option Storing → Type 0
+IsStoredBy v a i s = (c : cells.Cell) → IsKeptBy s c → stacks.IsCellKept v a i (Some c)

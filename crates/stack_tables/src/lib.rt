@@ -5,6 +5,7 @@
 
 mod apart;
 mod claims;
+mod memory;
 mod names;
 mod predicates;
 mod reading;
@@ -16,18 +17,19 @@ mod tables;
 
 pub use apart::{known_sum, known_sums};
 pub use claims::StackClaim;
+pub use memory::{Storing, is_kept_by, is_loaded_from};
 pub use names::{is_same_name, more_of, name_span};
 pub use predicates::{
     is_live_at, is_missed_by, is_restored_by, is_safe_at, line_at, name_at, stored_word, word_at,
 };
 pub use reading::{
-    address, arcs, begins, exits, form, instruction, is_live, is_restored, is_spared, line, lines,
-    name, name_of, span, span_of, word, word_count,
+    address, arcs, begins, cells, exits, form, instruction, is_live, is_restored, is_spared, line,
+    lines, name, name_of, span, span_of, word, word_count,
 };
 pub use safe::{descending, is_given_back, is_name_safe, is_safe};
 pub use sizes::is_stack_sized;
 pub use stores::{
     MOST_WORDS, arc_at, held_at, is_far, is_missed, is_sparing, is_steady, loaded_to, name_arc,
-    stored_from, word_number,
+    stored_by, stored_from, word_number,
 };
-pub use tables::{Name, StackTable, Word};
+pub use tables::{Cell, MOST_CELLS, Name, StackTable, Word};

@@ -1,6 +1,6 @@
 //! What the tables say at a node, by its number.
 
-ghost use Rattle.std.specs.Prelude.{◌≡◌, ◌<◌, ◌≤◌, ◌^◌, ℕ, length, IfSome, Some, Ok};
+ghost use Rattle.std.specs.Prelude.{◌≡◌, ◌<◌, ◌≤◌, ◌^◌, ℕ, length, option_map, slice_get, IfSome, Some, Ok};
 ghost use Rattle.std.specs.List.{All};
 ghost use Rattle.scale_base.specs.declared.instruction.Instr.{Instr};
 ghost use Rattle.scale_base.specs.Image.{image_of};
@@ -9,14 +9,14 @@ ghost use Rattle.code_text.specs.Text.{text_of};
 ghost use Rattle.stack_laws.specs.Stacks as stacks;
 ghost use Rattle.wrapped_intervals.specs.Small.{IsKeptOr, measure_view, row};
 ghost use Rattle.value_checks.specs.Tables.{line_in, IsForm, IsLineKept};
-ghost use Rattle.stack_tables.specs.Tables.{IsStackClaim, IsUnknown, IsWordKept, address, named, stacks_in, text_in, values_in};
+ghost use Rattle.stack_tables.specs.Tables.{HasKeptValues, IsStackClaim, IsUnknown, IsWordKept, address, cell_view, named, stacks_in, text_in, values_in};
 
 use crate::claims::StackClaim;
 use crate::rows::{
     arcs_row, begins_row, exits_row, form_row, line_in_row, lines_row, live_row, name_in_row,
     names_row, restored_row, span_in_row, spared_row, word_in, words_row,
 };
-use crate::tables::{Name, Word};
+use crate::tables::{Cell, Name, Word};
 use code_text::instr_at;
 use elf_image::ImageView;
 use scale_base::Instr;
@@ -220,6 +220,15 @@ pub fn place(claim: &StackClaim<'_>) -> Option<Arc>
     ensures kept { IsKeptOr result }
 {
     claim.stack.place
+}
+
+/// The numbers in memory that are always in an interval.
+pub fn cells<'a>(claim: &StackClaim<'a>) -> &'a [Cell]
+    requires { IsStackClaim claim.now }
+    ensures cells { (j : ℕ) → option_map cell_view (slice_get result.now j) ≡ (stacks_in claim.now).cell j }
+    ensures kept { All HasKeptValues result.now }
+{
+    &claim.stack.cells
 }
 
 /// How far word `number` is above what x2 had when its function began, modulo 2^32.

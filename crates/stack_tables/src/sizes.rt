@@ -3,10 +3,10 @@
 ghost use Rattle.std.specs.Prelude.{◌≡◌, true};
 ghost use Rattle.std.specs.List.{All};
 ghost use Rattle.wrapped_intervals.specs.Small.{IsKeptOr};
-ghost use Rattle.stack_tables.specs.Tables.{AreStacksSized, IsRowOf, IsRowOfWords, IsWordKept};
+ghost use Rattle.stack_tables.specs.Tables.{AreStacksSized, HasKeptValues, IsRowOf, IsRowOfWords, IsWordKept};
 
 use crate::stores::MOST_WORDS;
-use crate::tables::{StackTable, Word};
+use crate::tables::{Cell, MOST_CELLS, StackTable, Word};
 use flow_graph::CodeGraph;
 use value_checks::{are_arcs_kept, are_rows_kept};
 use wrapped_intervals::is_kept;
@@ -49,20 +49,35 @@ fn are_rows_of_words(rows: &[Vec<Word>]) -> bool
     true
 }
 
+// Whether the intervals of numbers in memory are.
+fn are_cells_kept(cells: &[Cell]) -> bool
+    ensures { result ≡ true → All HasKeptValues cells.now }
+{
+    for cell in cells {
+        if !is_kept(Some(cell.values)) {
+            return false;
+        }
+    }
+    true
+}
+
 // Whether all intervals of a table are kept.
 fn are_all_kept(stack: &StackTable) -> bool
     ensures spans { result ≡ true → All (All IsKeptOr) stack.now.spans.items }
     ensures words { result ≡ true → All IsRowOf stack.now.words.items }
     ensures begins { result ≡ true → All IsKeptOr stack.now.begins.items }
     ensures place { result ≡ true → IsKeptOr stack.now.place }
+    ensures cells { result ≡ true → All HasKeptValues stack.now.cells.items }
 {
     are_rows_kept(&stack.spans)
         && are_rows_of_words(&stack.words)
         && are_arcs_kept(&stack.begins)
         && is_kept(stack.place)
+        && are_cells_kept(&stack.cells)
 }
 
-/// Whether a table has a row for each node and each function of a graph, with intervals that are kept, and rows of at most so many words.
+/// Whether a table has a row for each node and each function of a graph, with intervals that are kept, rows of at most so many words,
+/// and at most so many numbers in memory.
 pub fn is_stack_sized(graph: &CodeGraph, stack: &StackTable) -> bool
     ensures { result ≡ true → AreStacksSized graph.now.code stack.now }
 {
@@ -74,5 +89,6 @@ pub fn is_stack_sized(graph: &CodeGraph, stack: &StackTable) -> bool
         && stack.spared.len() == nodes
         && stack.begins.len() == functions
         && stack.restored.len() == functions
+        && stack.cells.len() <= MOST_CELLS
         && are_all_kept(stack)
 }

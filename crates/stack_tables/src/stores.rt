@@ -6,10 +6,11 @@ ghost use Rattle.scale_base.specs.Arith.{store_width, unsigned};
 ghost use Rattle.bound_laws.specs.Values as values;
 ghost use Rattle.stack_laws.specs.Stacks as stacks;
 ghost use Rattle.wrapped_intervals.specs.Small.{IsFoundOr, IsKeptOr};
-ghost use Rattle.stack_tables.specs.Tables.{IsStackClaim, address, named, stacks_in, values_in};
+ghost use Rattle.stack_tables.specs.Tables.{IsStackClaim, IsStoredBy, IsStoring, address, named, stacks_in, values_in};
 
 use crate::apart::{are_apart, are_below, has_not, is_apart, is_below, known_sum};
 use crate::claims::StackClaim;
+use crate::memory::Storing;
 use crate::names::offset_of;
 use crate::reading::{arcs, begins, name_of, offset, place, span, span_of, word};
 use crate::tables::Name;
@@ -216,24 +217,28 @@ fn is_read_far(claim: &StackClaim<'_>, k: usize, words: Option<Arc>) -> bool
         || are_apart(held_at(claim, k, 11), most_read(claim, k), words)
 }
 
-// What a store stores at node k misses them.
-fn is_store_far(
-    claim: &StackClaim<'_>,
-    k: usize,
+// Where a store stores, and how much.
+#[derive(Clone, Copy)]
+struct StoreFields {
     op: StoreOp,
     rs1: u8,
     offset: i32,
-    words: Option<Arc>,
-) -> bool
+}
+
+// What a store stores at node k misses them.
+fn is_store_far(claim: &StackClaim<'_>, k: usize, fields: StoreFields, words: Option<Arc>) -> bool
     requires claim { IsStackClaim claim.now }
     requires node { k < length claim.now.graph.now.code.nodes }
     requires words { IsFoundOr words }
-    ensures { result ≡ true → stacks.AreApart (values.sum_with (values.held ((values_in claim.now).at (address claim.now k)) rs1)
-        (unsigned offset)) (store_width op) words }
+    ensures { result ≡ true → stacks.AreApart (values.sum_with (values.held ((values_in claim.now).at (address claim.now k)) fields.rs1)
+        (unsigned fields.offset)) (store_width fields.op) words }
 {
     are_apart(
-        sum_with(held_at(claim, k, rs1), u64::from(offset.cast_unsigned())),
-        width_of(op),
+        sum_with(
+            held_at(claim, k, fields.rs1),
+            u64::from(fields.offset.cast_unsigned()),
+        ),
+        width_of(fields.op),
         words,
     )
 }
@@ -251,9 +256,50 @@ pub fn is_far(claim: &StackClaim<'_>, i: Instr, k: usize, words: Option<Arc>) ->
             rs1,
             rs2: _,
             offset,
-        } => is_store_far(claim, k, op, rs1, offset, words),
+        } => is_store_far(claim, k, StoreFields { op, rs1, offset }, words),
         Instr::Ecall => is_read_far(claim, k, words),
         _ => true,
+    }
+}
+
+// What the read service stores: any bytes, so far as is known.
+fn read_by(claim: &StackClaim<'_>, k: usize) -> Option<Storing>
+    requires claim { IsStackClaim claim.now }
+    requires node { k < length claim.now.graph.now.code.nodes }
+    ensures stored { IsStoredBy (values_in claim.now) (address claim.now k) Ecall result }
+    ensures found { IfSome result IsStoring }
+{
+    if has_not(held_at(claim, k, 17), 63) {
+        None
+    } else {
+        Some(Storing {
+            place: held_at(claim, k, 11),
+            width: most_read(claim, k),
+            numbers: None,
+        })
+    }
+}
+
+/// What the instruction of node k stores, if it stores anything.
+pub fn stored_by(claim: &StackClaim<'_>, i: Instr, k: usize) -> Option<Storing>
+    requires claim { IsStackClaim claim.now }
+    requires node { k < length claim.now.graph.now.code.nodes }
+    ensures stored { IsStoredBy (values_in claim.now) (address claim.now k) i result }
+    ensures found { IfSome result IsStoring }
+{
+    match i {
+        Instr::Store {
+            op,
+            rs1,
+            rs2,
+            offset,
+        } => Some(Storing {
+            place: sum_with(held_at(claim, k, rs1), u64::from(offset.cast_unsigned())),
+            width: width_of(op),
+            numbers: held_at(claim, k, rs2),
+        }),
+        Instr::Ecall => read_by(claim, k),
+        _ => None,
     }
 }
 

@@ -18,10 +18,22 @@ pub struct Word {
     pub span: Option<Arc>,
 }
 
+/// How many numbers in memory a table has at most.
+pub const MOST_CELLS: usize = 1_024;
+
+/// A number in memory that is always in an interval: of so many bytes, 1, 2 or 4, from an address on, the lowest first.
+#[derive(Clone, Copy, PartialEq, Eq)]
+pub struct Cell {
+    pub at: u32,
+    pub width: u8,
+    pub values: Arc,
+}
+
 /// By node and register, before its instruction, where the value comes from and how far above the function's first x2 it points; by node
 /// and number, the words of the function's stack, of which nothing is known behind the last; by function, what x2 has when it begins, and
 /// which registers are at its returns what they were then; where the words of functions that wait for a call may be; and by node, whether
-/// nothing is stored to those words from here on up to the function's return, in what is called neither.
+/// nothing is stored to those words from here on up to the function's return, in what is called neither. And wherever the run is, numbers
+/// in memory that are always in an interval.
 #[derive(Drop)]
 pub struct StackTable {
     pub names: Vec<[Option<Name>; 32]>,
@@ -31,4 +43,5 @@ pub struct StackTable {
     pub restored: Vec<[bool; 32]>,
     pub place: Option<Arc>,
     pub spared: Vec<bool>,
+    pub cells: Vec<Cell>,
 }

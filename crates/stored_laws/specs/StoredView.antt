@@ -17,7 +17,13 @@ pub record IsStorable (image : Image) (patches : List Patch) (base : ℕ) (block
 
 -- a segment with its bytes from another file
 abbrev pub over_file : List ℕ → LoadSegment → LoadSegment
-over_file file s = record { from = s.from; len = s.len; flags = s.flags; file_at = s.file_at; file = slice_range file s.file_at (s.file_at + length s.file) }
+over_file file s = record {
+  from = s.from;
+  len = s.len;
+  flags = s.flags;
+  file_at = s.file_at;
+  file = slice_range file s.file_at (s.file_at + length s.file);
+}
 
 -- one more segment, before the first that begins at or above it
 abbrev pub insert_segment : List LoadSegment → LoadSegment → List LoadSegment
@@ -26,7 +32,8 @@ insert_segment (x ∷ xs) s = if nat_le s.from x.from then s ∷ x ∷ xs else x
 
 -- the segment of a block at the base, behind an original file
 abbrev pub block_segment : List ℕ → ℕ → List ℕ → LoadSegment
-block_segment original base block = record { from = base; len = length block; flags = KEYED_FLAGS; file_at = round_up 4096 (length original); file = block }
+block_segment original base block =
+    record { from = base; len = length block; flags = KEYED_FLAGS; file_at = round_up 4096 (length original); file = block }
 
 -- the original image over the stored file, with the block as its keyed segment and the level that a run starts at
 unfoldable pub stored_view : Image → List ℕ → ℕ → List ℕ → ℕ → Image

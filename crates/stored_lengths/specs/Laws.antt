@@ -33,7 +33,8 @@ RewrittenImagesAreShort = (image machine loops stored : List ℕ) (summary : Sum
 -- what `rewrite_as` stores
 abbrev pub ImagesRewrittenAsAreShort : Type 0
 ImagesRewrittenAsAreShort = (image machine loops : List ℕ) (min_gain : ℕ) (counters : Bool) (stored : List ℕ) (summary : Summary)
-    → length image ≤ IMAGE_LIMIT → IsRewrittenAs image machine loops min_gain counters (Ok ((stored, summary))) → length stored ≤ STORED_LIMIT
+    → length image ≤ IMAGE_LIMIT → IsRewrittenAs image machine loops min_gain counters (Ok ((stored, summary)))
+    → length stored ≤ STORED_LIMIT
 
 -- what `tune` stores
 abbrev pub TunedImagesAreShort : Type 0

@@ -80,7 +80,8 @@ AreAscending [] = Unit {0}
 AreAscending (site ∷ sites) = All (λ later. site.at < later.at) sites × AreAscending sites
 
 -- The image of a file, and what is stored of it: the stubs of marked instructions at a base, and a starting level. Its machine has so many levels.
-pub record IsStubbed (file : List ℕ) (image : Image) (levels : ℕ) (limits : ℕ → ℕ) (sites : List Site) (base start : ℕ) (stored : Image) : Type 0 where
+pub record IsStubbed (file : List ℕ) (image : Image) (levels : ℕ) (limits : ℕ → ℕ) (sites : List Site) (base start : ℕ) (stored : Image)
+    : Type 0 where
   pub read : image_of file ≡ Ok image
   pub storable : IsStorable image (patches_from base sites) base (block_bytes base sites) start
   pub stored_is : image_of (stored_image file (patches_from base sites) base (block_bytes base sites) start) ≡ Ok stored

@@ -13,6 +13,23 @@ use crate::ways::{all_rows_len, codes_len, fragments_by, push_way, reaches};
 use crate::words::push_code;
 use scale_base::{BranchOp, EdgeKind, Fragment, Instr, NoMemory};
 
+/// What stands in a stub for an edge: its fragments, and the address that it leads to behind them.
+#[derive(Clone, Copy)]
+struct Way<'a> {
+    fragments: &'a [Fragment],
+    target: u64,
+}
+
+/// What the stub of a branch holds: the branch's comparison and registers, and the way of each of its edges.
+#[derive(Clone, Copy)]
+struct Fork<'a> {
+    op: BranchOp,
+    rs1: u8,
+    rs2: u8,
+    untaken: Way<'a>,
+    taken: Way<'a>,
+}
+
 /// The fragments of the site's edge of the kind.
 #[tactic(auto, using(crate::proofs::SiteLaws::marked_fit))]
 pub fn marked(site: &StubSite, kind: EdgeKind) -> &[Fragment]
@@ -122,61 +139,55 @@ fn push_branch(out: &mut Vec<u8>, op: BranchOp, rs1: u8, rs2: u8, len: u64) -> R
 
 /// Adds the two ways of a branch's stub.
 #[tactic(auto, using(crate::proofs::SiteLaws::code_bytes_append))]
-fn push_ways(
-    out: &mut Vec<u8>,
-    at: u64,
-    table: u64,
-    untaken: &[Fragment],
-    taken: &[Fragment],
-    next: u64,
-    target: u64,
-) -> Result<(), NoMemory>
-    requires few { length untaken.now ≤ 17 }
-    requires few_too { length taken.now ≤ 17 }
-    requires each { All codes.IsFragment untaken.now }
-    requires each_too { All codes.IsFragment taken.now }
+fn push_ways(out: &mut Vec<u8>, at: u64, table: u64, fork: &Fork<'_>) -> Result<(), NoMemory>
+    requires few { length fork.now.untaken.fragments.now ≤ 17 }
+    requires few_too { length fork.now.taken.fragments.now ≤ 17 }
+    requires each { All codes.IsFragment fork.now.untaken.fragments.now }
+    requires each_too { All codes.IsFragment fork.now.taken.fragments.now }
     requires at { at ≤ 2 ^ 39 }
     requires table { table ≤ 2 ^ 39 }
-    requires reach { stubs.fork_reaches at (stubs.way next untaken.now) (stubs.way target taken.now) ≡ true }
-    ensures { OnOk result (out.new.items ≡ out.old.items ++ stubs.code_bytes (stubs.ways_code at table (stubs.way next untaken.now)
-        (stubs.way target taken.now))) }
+    requires reach { stubs.fork_reaches at (stubs.way fork.now.untaken.target fork.now.untaken.fragments.now)
+        (stubs.way fork.now.taken.target fork.now.taken.fragments.now) ≡ true }
+    ensures { OnOk result (out.new.items ≡ out.old.items ++ stubs.code_bytes (stubs.ways_code at table
+        (stubs.way fork.now.untaken.target fork.now.untaken.fragments.now)
+        (stubs.way fork.now.taken.target fork.now.taken.fragments.now))) }
 {
+    let untaken = fork.untaken.fragments;
     let second = at + 4 + 4 * (codes_len(untaken) + 1);
-    push_way(out, at + 4, table, untaken, next)?;
+    push_way(out, at + 4, table, untaken, fork.untaken.target)?;
     push_way(
         out,
         second,
         table + 4 * all_rows_len(untaken),
-        taken,
-        target,
+        fork.taken.fragments,
+        fork.taken.target,
     )
 }
 
 /// Adds the stub of a branch.
-fn push_fork(
-    out: &mut Vec<u8>,
-    at: u64,
-    table: u64,
-    branch: (BranchOp, u8, u8),
-    untaken: &[Fragment],
-    taken: &[Fragment],
-    next: u64,
-    target: u64,
-) -> Result<(), NoMemory>
-    requires rs1 { branch.1 < 32 }
-    requires rs2 { branch.2 < 32 }
-    requires few { length untaken.now ≤ 17 }
-    requires few_too { length taken.now ≤ 17 }
-    requires each { All codes.IsFragment untaken.now }
-    requires each_too { All codes.IsFragment taken.now }
+fn push_fork(out: &mut Vec<u8>, at: u64, table: u64, fork: &Fork<'_>) -> Result<(), NoMemory>
+    requires rs1 { fork.now.rs1 < 32 }
+    requires rs2 { fork.now.rs2 < 32 }
+    requires few { length fork.now.untaken.fragments.now ≤ 17 }
+    requires few_too { length fork.now.taken.fragments.now ≤ 17 }
+    requires each { All codes.IsFragment fork.now.untaken.fragments.now }
+    requires each_too { All codes.IsFragment fork.now.taken.fragments.now }
     requires at { at ≤ 2 ^ 39 }
     requires table { table ≤ 2 ^ 39 }
-    requires reach { stubs.fork_reaches at (stubs.way next untaken.now) (stubs.way target taken.now) ≡ true }
+    requires reach { stubs.fork_reaches at (stubs.way fork.now.untaken.target fork.now.untaken.fragments.now)
+        (stubs.way fork.now.taken.target fork.now.taken.fragments.now) ≡ true }
     ensures { OnOk result (out.new.items ≡ out.old.items ++ stubs.code_bytes (stubs.stub_code_of at table
-        (Forked branch.0 branch.1 branch.2 (stubs.way next untaken.now) (stubs.way target taken.now)))) }
+        (Forked fork.now.op fork.now.rs1 fork.now.rs2 (stubs.way fork.now.untaken.target fork.now.untaken.fragments.now)
+        (stubs.way fork.now.taken.target fork.now.taken.fragments.now)))) }
 {
-    push_branch(out, branch.0, branch.1, branch.2, codes_len(untaken) + 1)?;
-    push_ways(out, at, table, untaken, taken, next, target)?;
+    push_branch(
+        out,
+        fork.op,
+        fork.rs1,
+        fork.rs2,
+        codes_len(fork.untaken.fragments) + 1,
+    )?;
+    push_ways(out, at, table, fork)?;
     Ok(())
 }
 
@@ -195,18 +206,22 @@ pub fn push_stub(out: &mut Vec<u8>, at: u64, table: u64, site: &StubSite) -> Res
             rs2,
             offset,
         } => {
-            let untaken = marked(site, EdgeKind::Untaken);
-            let taken = marked(site, EdgeKind::Taken);
-            push_fork(
-                out,
-                at,
-                table,
-                (op, rs1, rs2),
+            let untaken = Way {
+                fragments: marked(site, EdgeKind::Untaken),
+                target: next(site.at),
+            };
+            let taken = Way {
+                fragments: marked(site, EdgeKind::Taken),
+                target: target(site.at, offset),
+            };
+            let fork = Fork {
+                op,
+                rs1,
+                rs2,
                 untaken,
                 taken,
-                next(site.at),
-                target(site.at, offset),
-            )
+            };
+            push_fork(out, at, table, &fork)
         },
         Instr::Jal { offset, .. } => {
             let fragments = marked(site, EdgeKind::Jump);

@@ -4,7 +4,9 @@ use crate::marks::{Mark, change_energy, energy_at, entry, mark_of};
 use flow_graph::CodeGraph;
 use loop_forest::LoopTree;
 use power_model::Power;
-use run_traces::{Candidate, EdgeSum, LoopPlan, MOST_LOOPS, Numbers, StubCosts, Sums, loop_plan};
+use run_traces::{
+    Candidate, EdgeSum, LoopPlan, MOST_LOOPS, NumberedProgram, Numbers, StubCosts, Sums, loop_plan,
+};
 use scale_base::NoMemory;
 use std::alloc::Global;
 
@@ -227,10 +229,14 @@ pub fn loops_of(
     most: usize,
 ) -> Result<Vec<LoopPlan>, NoMemory> {
     let sums = known.sums;
-    let numbers = known.numbers;
+    let program = NumberedProgram {
+        graph,
+        tree,
+        numbers: known.numbers,
+    };
     let mut plans = Vec::new(alloc);
-    for long in &longest(alloc, tree, numbers, sums)? {
-        if let Some(plan) = loop_plan(alloc, graph, tree, numbers, &known.costs, long.number)? {
+    for long in &longest(alloc, tree, known.numbers, sums)? {
+        if let Some(plan) = loop_plan(alloc, &program, &known.costs, long.number)? {
             if plans.len() < most.min(MOST_LOOPS) && is_worth_it(&plan, long, sums) {
                 plans.push(plan)?;
             }

@@ -79,19 +79,31 @@ fn is_worth_it(
     }
 }
 
-/// Appends a proposal with some switches that counts the loops that are noted so, if there are few and it may be worth it.
-fn offer(
+/// A proposal with some switches that counts the loops that are noted so, if it may be worth it.
+fn counting(
     alloc: Global,
     files: &Files<'_>,
     worst: u64,
-    most: usize,
     sites: Vec<SwitchSite>,
-    proposals: &mut Vec<Proposal>,
-) -> Result<(), NoMemory> {
+) -> Result<Option<Proposal>, NoMemory> {
     let proposal = counted_with(alloc, few(sites));
     if let Some(thinned) = thinned(alloc, files, proposal)? {
-        if proposals.len() < most && is_worth_it(alloc, files, worst, &thinned)? {
-            proposals.push(thinned)?;
+        if is_worth_it(alloc, files, worst, &thinned)? {
+            return Ok(Some(thinned));
+        }
+    }
+    Ok(None)
+}
+
+/// Appends a proposal, if there is one, to some that are fewer than so many.
+fn offer(
+    proposals: &mut Vec<Proposal>,
+    most: usize,
+    proposal: Option<Proposal>,
+) -> Result<(), NoMemory> {
+    if let Some(proposal) = proposal {
+        if proposals.len() < most {
+            proposals.push(proposal)?;
         }
     }
     Ok(())
@@ -115,9 +127,11 @@ pub fn add_counted(
     proposals: &mut Vec<Proposal>,
 ) -> Result<(), NoMemory> {
     let first = first_sites(alloc, proposals)?;
-    offer(alloc, files, worst, most, Vec::new(alloc), proposals)?;
+    let alone = counting(alloc, files, worst, Vec::new(alloc))?;
+    offer(proposals, most, alone)?;
     if first.is_empty() {
         return Ok(());
     }
-    offer(alloc, files, worst, most, first, proposals)
+    let with_switches = counting(alloc, files, worst, first)?;
+    offer(proposals, most, with_switches)
 }

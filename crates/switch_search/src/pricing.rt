@@ -98,6 +98,14 @@ impl Event {
     }
 }
 
+/// A part of a run, from one time to another, at one level.
+#[derive(Clone, Copy)]
+struct RunPart {
+    begin: u64,
+    end: u64,
+    level: u8,
+}
+
 impl<'a> Search<'a> {
     /// The cycles that the stubs of a set take from one time of a run to another.
     fn stub_cycles(&self, set: &MarkSet, run: &RunMarks, begin: u64, end: u64) -> u64 {
@@ -136,11 +144,11 @@ impl<'a> Search<'a> {
             .saturating_add(other)
     }
 
-    /// The energy of a run from one time to another at a level, with the stubs of a set.
-    fn part_energy(&self, set: &MarkSet, run: &RunMarks, begin: u64, end: u64, level: u8) -> u128 {
-        let stubs = self.stub_cycles(set, run, begin, end);
-        let cycles = u128::from(end.saturating_sub(begin)) + u128::from(stubs);
-        cycles.saturating_mul(energy_at(self.power, level))
+    /// The energy of a part of a run, with the stubs of a set.
+    fn part_energy(&self, set: &MarkSet, run: &RunMarks, part: &RunPart) -> u128 {
+        let stubs = self.stub_cycles(set, run, part.begin, part.end);
+        let cycles = u128::from(part.end.saturating_sub(part.begin)) + u128::from(stubs);
+        cycles.saturating_mul(energy_at(self.power, part.level))
     }
 
     /// The events of a run with the stubs of a set, the first one first.
@@ -157,21 +165,25 @@ impl<'a> Search<'a> {
 
     /// The energy of a run with the stubs of a set.
     fn run_energy(&self, set: &MarkSet, acts: &Acts, run: &RunMarks) -> Result<u128, NoMemory> {
-        let mut level = acts.start;
-        let mut begin: u64 = 0;
+        let mut part = RunPart {
+            begin: 0,
+            end: 0,
+            level: acts.start,
+        };
         let mut energy: u128 = 0;
         for event in &self.events(set, acts, run)? {
-            let to = event.from(level);
-            if event.at < run.run.cycles && to != level {
+            let to = event.from(part.level);
+            if event.at < run.run.cycles && to != part.level {
+                part.end = event.at;
                 energy = energy
-                    .saturating_add(self.part_energy(set, run, begin, event.at, level))
-                    .saturating_add(change_energy(self.power, level, to));
-                begin = event.at;
-                level = to;
+                    .saturating_add(self.part_energy(set, run, &part))
+                    .saturating_add(change_energy(self.power, part.level, to));
+                part.begin = event.at;
+                part.level = to;
             }
         }
-        let rest = self.part_energy(set, run, begin, run.run.cycles.saturating_add(1), level);
-        Ok(energy.saturating_add(rest))
+        part.end = run.run.cycles.saturating_add(1);
+        Ok(energy.saturating_add(self.part_energy(set, run, &part)))
     }
 
     /// Whether a set is out by a run on an input: its stubs take more than so many thousandths of the run's cycles, and it doesn't save at least as much as

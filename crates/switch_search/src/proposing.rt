@@ -110,33 +110,47 @@ struct Program<'a> {
     tree: &'a LoopTree,
     numbers: &'a Numbers,
     start: u8,
+    /// Whether some loop is noted as counted.
+    counted: bool,
 }
 
-/// Up to so many proposals of candidates, by what the runs do there.
+/// Candidates, and what the runs do there.
+#[derive(Clone, Copy)]
+struct Marked<'a> {
+    places: Places<'a>,
+    runs: &'a [RunMarks],
+}
+
+/// How many sets a search prices, and how many proposals it gives at most.
+#[derive(Clone, Copy)]
+struct Effort {
+    tries: usize,
+    most: usize,
+}
+
+/// The best proposals of candidates, by what the runs do there.
 fn searched(
     alloc: Global,
     files: Files<'_>,
     known: &Known<'_>,
-    places: Places<'_>,
-    runs: &[RunMarks],
-    tries: usize,
-    most: usize,
+    marked: Marked<'_>,
+    effort: Effort,
 ) -> Result<Vec<Proposal>, NoMemory> {
     let mut search = Search {
         alloc,
         files,
         power: known.power,
         costs: known.costs,
-        places,
-        runs,
-        shortest: shortest_of(runs),
+        places: marked.places,
+        runs: marked.runs,
+        shortest: shortest_of(marked.runs),
         start: known.start,
         held: known.held_energy(),
         known: Vec::new(alloc),
-        tries,
+        tries: effort.tries,
     };
-    let sets = best_sets(alloc, &mut search, most)?;
-    proposals_of(alloc, &places, &sets)
+    let sets = best_sets(alloc, &mut search, effort.most)?;
+    proposals_of(alloc, &marked.places, &sets)
 }
 
 /// Up to so many proposals for a program whose numbers are known, by some runs, in which no loop is counted that isn't tallied.
@@ -173,21 +187,24 @@ fn search_program<P: Progress>(
     };
     let watched = places.watched(known.costs.jump);
     let marks = runs.marks(alloc, &watched, &mut trace, progress)?;
-    let files = program.files;
-    Ok(searched(alloc, files, &known, places, &marks, tries, most)?)
+    let marked = Marked {
+        places,
+        runs: &marks,
+    };
+    let effort = Effort { tries, most };
+    Ok(searched(alloc, program.files, &known, marked, effort)?)
 }
 
-/// The proposals for a program whose numbers are known, where some loop is noted as counted, or none. The runs take so many steps.
+/// The proposals for a program whose numbers are known. The runs take so many steps.
 fn propose_for<P: Progress>(
     alloc: Global,
     program: &Program<'_>,
     runs: &Runs<'_>,
-    noted: bool,
     steps: u64,
     progress: &mut P,
 ) -> Result<Vec<Proposal>, Stop> {
     // Only runs tell what counting takes.
-    let counts = noted && !runs.places.is_empty();
+    let counts = program.counted && !runs.places.is_empty();
     let most = most_proposals(steps);
     let few = if counts {
         most.saturating_sub(2)
@@ -226,6 +243,7 @@ fn search_files<P: Progress>(
         tree: &tree,
         numbers: &numbers,
         start,
+        counted: has_counted(&sources.notes),
     };
     let runs = Runs {
         view: &sources.view,
@@ -234,14 +252,7 @@ fn search_files<P: Progress>(
         inputs,
         places: &places,
     };
-    propose_for(
-        alloc,
-        &program,
-        &runs,
-        has_counted(&sources.notes),
-        steps,
-        progress,
-    )
+    propose_for(alloc, &program, &runs, steps, progress)
 }
 
 /// Up to 10 proposals that may save energy, the most promising one first: at most 8 of edges with a switch and loops that are tallied, as `pace` takes

@@ -14,7 +14,7 @@ use Rattle.bound_laws.specs.Values.{Values, Steps}
 use Rattle.stack_laws.specs.Stacks.{Stacks}
 use Rattle.stack_tables.specs.Tables.{address, claim_stacks, claim_text, claim_values, stacks_in, text_in, values_in}
 use Rattle.stack_tables.proofs.Laws.{address_is}
-use Rattle.turn_laws.specs.Relating.{IsTurnCertificate, IsTurnShown}
+use Rattle.turn_laws.specs.Relating.{IsPossible, IsTurnCertificate, IsTurnShown}
 use Rattle.turn_checks.specs.declared.tables.TurnCase.{TurnCase}
 use Rattle.turn_checks.specs.Turned.{cert, certificate_in, AreEdgesTurned, IsBackSo, IsCalledSo, IsEntrySo, IsHeaderSo, IsLedSo, IsLiveSo, IsSound, IsStepSo, IsTurnCase}
 
@@ -34,13 +34,13 @@ certificate c is head begun given = record {
   called = λ a b call live on. (called a b call live).begins on;
   entry = entry;
   counts = λ a leads live inside. (led a h leads live).counted refl inside;
-  along = λ a b r i steps live inside on other at reg. ((step a b i steps live inside at).over other on).rows r reg;
-  along_own = λ a b i steps live inside on other at. ((step a b i steps live inside at).over other on).own;
-  along_used = λ a b i steps live inside on other at used. ((step a b i steps live inside at).over other on).used used;
+  along = λ a b r i steps live inside on other at possible reg. ((step a b i steps live inside at possible).over other on).rows r reg;
+  along_own = λ a b i steps live inside on other at possible. ((step a b i steps live inside at possible).over other on).own;
+  along_used = λ a b i steps live inside on other at possible used. ((step a b i steps live inside at possible).over other on).used used;
   back = λ a to b r call leads live inside on other reg. ((back a to b call leads live inside).back other on).rows r reg;
   back_own = λ a to b call leads live inside on other. ((back a to b call leads live inside).back other on).own;
   back_used = λ a to b call leads live inside on other used. ((back a to b call leads live inside).back other on).used used;
-  turns = λ a i steps live inside at. (step a h i steps live inside at).turn refl;
+  turns = λ a i steps live inside at possible. (step a h i steps live inside at possible).turn refl;
   turns_back = λ a to call leads live inside. (back a to h call leads live inside).turn refl;
   calls = λ a b call live inside. (called a b call live).quiet inside;
   quiet_along = quiet_along;
@@ -75,10 +75,10 @@ certificate c is head begun given = record {
     called : (a b : ℕ) → Calls g a b → v.live a ≡ true → IsCalledSo (cert c) h a b
     called a b (e, f, lt, source, callee, entry) live = subst (λ (y : ℕ). IsCalledSo (cert c) h a y) entry ((alive e lt a source live).called f callee)
 
-    step : (a b : ℕ) (i : Instr) → Steps g a b → v.live a ≡ true → (cert c).body a ≡ true → instr_at t a ≡ Some i → IsStepSo v w (cert c) h a i b
+    step : (a b : ℕ) (i : Instr) → Steps g a b → v.live a ≡ true → (cert c).body a ≡ true → instr_at t a ≡ Some i → IsPossible v a i b → IsStepSo v w (cert c) h a i b
     step a b i (e, lt, source, target, none) live inside at =
         let found : (j : Instr) × (instr_at t a ≡ Some j) × IsSound c g a j e = (alive e lt a source live).sound inside in
-        subst (λ (j : Instr). IsStepSo v w (cert c) h a j b) (some_is found.0 i (sym found.1 ∙ at)) (found.2.step b target none)
+        subst (λ (j : Instr). IsPossible v a j b → IsStepSo v w (cert c) h a j b) (some_is found.0 i (sym found.1 ∙ at)) (found.2.step b target none)
 
     back : (a to b : ℕ) → Calls g a to → Leads g a b → v.live a ≡ true → (cert c).body a ≡ true → IsBackSo t v w (cert c) h a to b
     back a to b (d, f, dl, from, callee, entry) (e, el, source, target) live inside =

@@ -1,35 +1,37 @@
 -- Scaffold: a table of turns as what `turn_laws` calls a certificate: by address what stands beside it in the list of nodes, by register what stands in
 -- the row.
-use Rattle.std.specs.Prelude.{◌≡◌, ◌≢◌, ℕ, ◌+◌, ◌^◌, ◌<◌, ◌⊎◌, Bool, true, false, List, [], length, slice_get, map, option_map, Some, None, Vec}
+use Rattle.std.specs.Prelude.{◌≡◌, ◌≢◌, ℕ, ◌+◌, ◌-◌, ◌^◌, ◌<◌, ◌⊎◌, ◌==◌, ◌&&◌, not, nat_lt, is_some, if◌then◌else◌, Option, Bool, true, false, List, [], length, slice_get, map, option_map, Some, None, Vec}
 use Rattle.std.specs.declared.alloc.Global.{Global}
 use Rattle.scale_base.specs.declared.instruction.Instr.{Instr}
 use Rattle.cost_theory.specs.Graph.{Graph}
 use Rattle.code_text.specs.Text.{Text, instr_at}
 use Rattle.loop_file.specs.Kept.{in_extent}
 use Rattle.flow_graph.specs.FlowGraph.{graph}
-use Rattle.bound_laws.specs.Values.{arc, scaled, Covers, IsRegister, Values}
+use Rattle.bound_laws.specs.Values.{Arc, arc, least_of, scaled, top_of, Covers, IsRegister, Values}
 use Rattle.stack_laws.specs.Stacks.{Stacks}
 use Rattle.stack_tables.specs.Tables.{IsStackClaim, address, stacks_in, text_in, values_in}
 use Rattle.value_checks.specs.Tables.{beside, or_other}
 use Rattle.stack_tables.specs.declared.claims.StackClaim.{StackClaim}
 use Rattle.turn_laws.specs.Relating as relating
 use Rattle.turn_laws.specs.Relating.{TurnCertificate}
-use Rattle.turn_laws.specs.Relating.Relation.{unknown, ahead_by, below}
+use Rattle.turn_laws.specs.Relating.Relation.{unknown, ahead_by, below, above}
 use Rattle.turn_laws.specs.Relating.Place.{in_register, in_word}
-use Rattle.turn_laws.specs.Relating.Kind.{moves, lowers, halves}
+use Rattle.turn_laws.specs.Relating.Kind.{moves, lowers, raises, halves}
 use Rattle.turn_checks.specs.declared.tables.Relation.{Relation}
-use Rattle.turn_checks.specs.declared.tables.Relation.TheVariants.{Unknown, Ahead, Below}
+use Rattle.turn_checks.specs.declared.tables.Relation.TheVariants.{Unknown, Ahead, Below, Above}
 use Rattle.turn_checks.specs.declared.tables.TurnPlace.{TurnPlace}
 use Rattle.turn_checks.specs.declared.tables.TurnPlace.TheVariants.{Register, Word}
 use Rattle.turn_checks.specs.declared.tables.TurnKind.{TurnKind}
-use Rattle.turn_checks.specs.declared.tables.TurnKind.TheVariants.{Moves, Lowers, Halves}
+use Rattle.turn_checks.specs.declared.tables.TurnKind.TheVariants.{Moves, Lowers, Raises, Halves}
 use Rattle.turn_checks.specs.declared.tables.TurnTable.{TurnTable}
 use Rattle.turn_checks.specs.declared.tables.TurnCase.{TurnCase}
+use Rattle.turn_checks.specs.declared.tables.Step.{Step}
 
 abbrev pub relation_view : Relation → relating.Relation
 relation_view Unknown = unknown
 relation_view (Ahead low more) = ahead_by (Some (arc low more))
 relation_view (Below less shift) = below less shift
+relation_view (Above more) = above more
 
 abbrev pub place_view : TurnPlace → relating.Place
 place_view (Register r) = in_register r
@@ -38,6 +40,7 @@ place_view (Word k) = in_word k
 abbrev pub kind_view : TurnKind → relating.Kind
 kind_view (Moves factor shift) = moves factor shift
 kind_view Lowers = lowers
+kind_view (Raises from) = raises from
 kind_view (Halves bits) = halves bits
 
 -- what stands in a row of relations, by register, and nothing behind the last one
@@ -89,7 +92,7 @@ at_of c k = address c.claim.now k
 
 -- over a step from a to b, which isn't the header
 pub record AreOver (v : Values) (w : Stacks) (c : TurnCertificate) (a : ℕ) (i : Instr) (b : ℕ) : Type 0 where
-  pub rows : (r : ℕ) → IsRegister r → relating.IsRowOver v w c a i r (c.row b r)
+  pub rows : (r : ℕ) → IsRegister r → relating.IsRowOn v w c a i b r (c.row b r)
   pub own : relating.IsOwnOver v w c a i c.place (c.own b)
   pub used : c.used b ≡ true → relating.IsUsed v c a i b
 
@@ -120,8 +123,8 @@ pub record IsCalledSo (c : TurnCertificate) (header a b : ℕ) : Type 0 where
 
 -- of the instruction at the source of an edge, where that is in the body
 pub record IsSound (c : TurnCase) (g : Graph) (a : ℕ) (i : Instr) (e : ℕ) : Type 0 where
-  pub step : (b : ℕ) → g.target e ≡ Some b → g.callee e ≡ None → IsStepSo (values_in c.claim.now) (stacks_in c.claim.now) (cert c)
-      c.note.now.header a i b
+  pub step : (b : ℕ) → g.target e ≡ Some b → g.callee e ≡ None → relating.IsPossible (values_in c.claim.now) a i b →
+      IsStepSo (values_in c.claim.now) (stacks_in c.claim.now) (cert c) c.note.now.header a i b
   pub back : (f b : ℕ) → g.callee e ≡ Some f → g.target e ≡ Some b → IsBackSo (text_in c.claim.now) (values_in c.claim.now)
       (stacks_in c.claim.now) (cert c) c.note.now.header a (g.entry f) b
 
@@ -157,3 +160,31 @@ AreEdgesTurned c = (e : ℕ) → e < length c.claim.now.graph.now.code.edges →
 abbrev pub IsMoved : (factor low more least width : ℕ) → Type 0
 IsMoved factor low more least width = (most : ℕ) × Covers (Some (arc least most)) (scaled factor (Some (arc low more))) ×
     (least + most + width < 2 ^ 32)
+
+-- ---- of relations
+
+-- how much less a sum of what is in an interval is, where the other number is 2^32 less that
+abbrev pub taken_by : Option Arc → ℕ → Option ℕ
+taken_by i n = if n == 0 then Some 0 else if nat_lt (2 ^ 32 - 1) (least_of i + n) then Some (2 ^ 32 - n) else None
+
+-- how much more a sum is than so much
+abbrev pub added_by : ℕ → Option Arc → ℕ → Option ℕ
+added_by more i n =
+    if nat_lt (top_of i + n) (2 ^ 32) then Some (more + n)
+    else if nat_lt (2 ^ 32 - 1) (more + n) then Some (more + n - 2 ^ 32)
+    else None
+
+-- how much more a sum of values of two intervals is than the first one, where it is a word
+abbrev pub more_by : (i j : Option Arc) → Option ℕ
+more_by i j = if nat_lt (top_of i + top_of j) (2 ^ 32) then Some (least_of j) else None
+
+-- how much less a difference of their values is, where it doesn't wrap
+abbrev pub less_by : (i j : Option Arc) → Option ℕ
+less_by i j = if (is_some i && is_some j) && not (nat_lt (least_of i) (top_of j)) then Some (least_of j) else None
+
+-- ---- steps
+
+-- the numbers of a step are those of nodes
+pub record IsStep (c : TurnCase) (s : Step) : Type 0 where
+  pub from : s.from < length c.claim.now.graph.now.code.nodes
+  pub to : s.to < length c.claim.now.graph.now.code.nodes

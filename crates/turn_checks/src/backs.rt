@@ -9,27 +9,27 @@ ghost use Rattle.turn_laws.specs.Relating.Place.{in_word};
 
 use crate::relations::is_weaker;
 use crate::rows::{own_at, row_at};
-use crate::tables::{Relation, TurnCase, TurnPlace};
-use scale_base::Instr;
+use crate::tables::{Call, Relation, TurnCase, TurnPlace};
 use stack_tables::{is_given_back, is_safe};
 
-/// Whether a relation is one of a register behind the call at node k of the function that begins at node h.
-pub fn is_row_back(case: &TurnCase<'_>, i: Instr, k: usize, h: usize, r: u8, b: Relation) -> bool
+/// Whether a relation is one of a register behind a call.
+pub fn is_row_back(case: &TurnCase<'_>, call: Call, r: u8, b: Relation) -> bool
     requires case { IsTurnCase case.now }
-    requires from { k < length case.now.claim.now.graph.now.code.nodes }
-    requires entry { h < length case.now.claim.now.graph.now.code.nodes }
+    requires from { call.from < length case.now.claim.now.graph.now.code.nodes }
+    requires entry { call.entry < length case.now.claim.now.graph.now.code.nodes }
     requires register { r < 32 }
-    requires instruction { text.instr_at (text_in case.now.claim.now) (at_of case.now k) ≡ Some i }
+    requires instruction { text.instr_at (text_in case.now.claim.now) (at_of case.now call.from) ≡ Some call.instr }
     ensures { result ≡ true → relating.IsRowBack (text_in case.now.claim.now) (values_in case.now.claim.now) (stacks_in case.now.claim.now)
-        (cert case.now) (at_of case.now k) (at_of case.now h) r (relation_view b) }
+        (cert case.now) (at_of case.now call.from) (at_of case.now call.entry) r (relation_view b) }
 {
     if is_weaker(b, Relation::Unknown) {
         return true;
     }
-    is_weaker(b, row_at(case.claim, case.table, k, r)) && is_given_back(case.claim, i, k, h, r)
+    is_weaker(b, row_at(case.claim, case.table, call.from, r))
+        && is_given_back(case.claim, call.instr, call.from, call.entry, r)
 }
 
-// The same of a word.
+// The same of a word, behind the call at node k of the function that begins at node h.
 fn is_word_back(case: &TurnCase<'_>, k: usize, h: usize, word: u32, b: Relation) -> bool
     requires case { IsTurnCase case.now }
     requires from { k < length case.now.claim.now.graph.now.code.nodes }

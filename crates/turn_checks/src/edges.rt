@@ -8,35 +8,28 @@ ghost use Rattle.loop_file.specs.Kept as extent;
 ghost use Rattle.scale_base.specs.declared.instruction.Instr.{Instr};
 ghost use Rattle.stack_tables.specs.Tables.{stacks_in, text_in, values_in};
 ghost use Rattle.turn_laws.specs.Relating as relating;
-ghost use Rattle.turn_checks.specs.Turned.{at_of, cert, place_view, AreBack, AreOver, IsBackSo, IsCalledSo, IsEdgeTurned, IsLedSo, IsLiveSo, IsSound, IsStepSo, IsTurnCase};
+ghost use Rattle.turn_checks.specs.Turned.{at_of, cert, place_view, AreBack, AreOver, IsBackSo, IsCalledSo, IsEdgeTurned, IsLedSo, IsLiveSo, IsSound, IsStep, IsStepSo, IsTurnCase};
 
 use crate::backs::{is_own_back, is_row_back};
+use crate::compared::{is_never, is_row_on};
 use crate::ends::{is_turn_back, is_turn_over};
-use crate::made::{is_row_over, is_word_over};
+use crate::made::is_word_over;
 use crate::rows::{is_body, is_quiet, is_used, own_at, row_at};
-use crate::tables::{TurnCase, TurnPlace};
+use crate::tables::{Call, Step, TurnCase, TurnPlace};
 use crate::using::is_used_over;
 use loop_file::in_extent;
 use scale_base::Instr;
 use stack_tables::{address, instruction, is_live};
 
 // Whether the relation of each register where the step leads is one behind the instruction.
-fn are_rows_over(case: &TurnCase<'_>, i: Instr, k: usize, n: usize) -> bool
+fn are_rows_over(case: &TurnCase<'_>, step: Step) -> bool
     requires case { IsTurnCase case.now }
-    requires from { k < length case.now.claim.now.graph.now.code.nodes }
-    requires to { n < length case.now.claim.now.graph.now.code.nodes }
-    ensures { result ≡ true → (r : ℕ) → IsRegister r → relating.IsRowOver (values_in case.now.claim.now) (stacks_in case.now.claim.now)
-        (cert case.now) (at_of case.now k) i r ((cert case.now).row (at_of case.now n) r) }
+    requires step { IsStep case.now step }
+    ensures { result ≡ true → (r : ℕ) → IsRegister r → relating.IsRowOn (values_in case.now.claim.now) (stacks_in case.now.claim.now)
+        (cert case.now) (at_of case.now step.from) step.instr (at_of case.now step.to) r ((cert case.now).row (at_of case.now step.to) r) }
 {
     for r in 1..32u8 {
-        if !is_row_over(
-            case.claim,
-            case.table,
-            i,
-            k,
-            r,
-            row_at(case.claim, case.table, n, r),
-        ) {
+        if !is_row_on(case, step, r, row_at(case.claim, case.table, step.to, r)) {
             return false;
         }
     }
@@ -54,14 +47,7 @@ fn is_own_over(case: &TurnCase<'_>, i: Instr, k: usize, n: usize) -> bool
     match case.table.place {
         TurnPlace::Register(_) => true,
         TurnPlace::Word(word) => {
-            is_word_over(
-                case.claim,
-                case.table,
-                i,
-                k,
-                word,
-                own_at(case.claim, case.table, n),
-            )
+            is_word_over(case, i, k, word, own_at(case.claim, case.table, n))
         }
     }
 }
@@ -74,7 +60,12 @@ fn are_over(case: &TurnCase<'_>, i: Instr, k: usize, n: usize) -> bool
     ensures { result ≡ true → AreOver (values_in case.now.claim.now) (stacks_in case.now.claim.now) (cert case.now) (at_of case.now k) i
         (at_of case.now n) }
 {
-    if !are_rows_over(case, i, k, n) {
+    let step = Step {
+        instr: i,
+        from: k,
+        to: n,
+    };
+    if !are_rows_over(case, step) {
         return false;
     }
     if !is_own_over(case, i, k, n) {
@@ -97,18 +88,36 @@ fn is_step_so(case: &TurnCase<'_>, i: Instr, k: usize, n: usize) -> bool
     !is_body(case.claim, case.table, n) || are_over(case, i, k, n)
 }
 
-// Whether the relation of each register is one behind the call of the function that begins at node h.
-fn are_rows_back(case: &TurnCase<'_>, i: Instr, k: usize, h: usize, n: usize) -> bool
+// The same, where a state may come this way.
+fn is_possible_so(case: &TurnCase<'_>, i: Instr, k: usize, n: usize) -> bool
     requires case { IsTurnCase case.now }
     requires from { k < length case.now.claim.now.graph.now.code.nodes }
-    requires entry { h < length case.now.claim.now.graph.now.code.nodes }
     requires to { n < length case.now.claim.now.graph.now.code.nodes }
-    requires instruction { text.instr_at (text_in case.now.claim.now) (at_of case.now k) ≡ Some i }
+    ensures { result ≡ true → relating.IsPossible (values_in case.now.claim.now) (at_of case.now k) i (at_of case.now n) →
+        IsStepSo (values_in case.now.claim.now) (stacks_in case.now.claim.now) (cert case.now) case.now.note.now.header (at_of case.now k) i
+        (at_of case.now n) }
+{
+    let step = Step {
+        instr: i,
+        from: k,
+        to: n,
+    };
+    is_never(case, step) || is_step_so(case, i, k, n)
+}
+
+// Whether the relation of each register is one behind the call.
+fn are_rows_back(case: &TurnCase<'_>, call: Call, n: usize) -> bool
+    requires case { IsTurnCase case.now }
+    requires from { call.from < length case.now.claim.now.graph.now.code.nodes }
+    requires entry { call.entry < length case.now.claim.now.graph.now.code.nodes }
+    requires to { n < length case.now.claim.now.graph.now.code.nodes }
+    requires instruction { text.instr_at (text_in case.now.claim.now) (at_of case.now call.from) ≡ Some call.instr }
     ensures { result ≡ true → (r : ℕ) → IsRegister r → relating.IsRowBack (text_in case.now.claim.now) (values_in case.now.claim.now)
-        (stacks_in case.now.claim.now) (cert case.now) (at_of case.now k) (at_of case.now h) r ((cert case.now).row (at_of case.now n) r) }
+        (stacks_in case.now.claim.now) (cert case.now) (at_of case.now call.from) (at_of case.now call.entry) r
+        ((cert case.now).row (at_of case.now n) r) }
 {
     for r in 1..32u8 {
-        if !is_row_back(case, i, k, h, r, row_at(case.claim, case.table, n, r)) {
+        if !is_row_back(case, call, r, row_at(case.claim, case.table, n, r)) {
             return false;
         }
     }
@@ -116,38 +125,43 @@ fn are_rows_back(case: &TurnCase<'_>, i: Instr, k: usize, h: usize, n: usize) ->
 }
 
 // All of a call that comes back elsewhere than to the header.
-fn are_back(case: &TurnCase<'_>, i: Instr, k: usize, h: usize, n: usize) -> bool
+fn are_back(case: &TurnCase<'_>, call: Call, n: usize) -> bool
     requires case { IsTurnCase case.now }
-    requires from { k < length case.now.claim.now.graph.now.code.nodes }
-    requires entry { h < length case.now.claim.now.graph.now.code.nodes }
+    requires from { call.from < length case.now.claim.now.graph.now.code.nodes }
+    requires entry { call.entry < length case.now.claim.now.graph.now.code.nodes }
     requires to { n < length case.now.claim.now.graph.now.code.nodes }
-    requires instruction { text.instr_at (text_in case.now.claim.now) (at_of case.now k) ≡ Some i }
+    requires instruction { text.instr_at (text_in case.now.claim.now) (at_of case.now call.from) ≡ Some call.instr }
     ensures { result ≡ true → AreBack (text_in case.now.claim.now) (values_in case.now.claim.now) (stacks_in case.now.claim.now)
-        (cert case.now) (at_of case.now k) (at_of case.now h) (at_of case.now n) }
+        (cert case.now) (at_of case.now call.from) (at_of case.now call.entry) (at_of case.now n) }
 {
-    if !are_rows_back(case, i, k, h, n) {
+    if !are_rows_back(case, call, n) {
         return false;
     }
-    if !is_own_back(case, k, h, own_at(case.claim, case.table, n)) {
+    if !is_own_back(
+        case,
+        call.from,
+        call.entry,
+        own_at(case.claim, case.table, n),
+    ) {
         return false;
     }
-    !is_used(case.claim, case.table, n) || is_used(case.claim, case.table, k)
+    !is_used(case.claim, case.table, n) || is_used(case.claim, case.table, call.from)
 }
 
 // A call within the body.
-fn is_back_so(case: &TurnCase<'_>, i: Instr, k: usize, h: usize, n: usize) -> bool
+fn is_back_so(case: &TurnCase<'_>, call: Call, n: usize) -> bool
     requires case { IsTurnCase case.now }
-    requires from { k < length case.now.claim.now.graph.now.code.nodes }
-    requires entry { h < length case.now.claim.now.graph.now.code.nodes }
+    requires from { call.from < length case.now.claim.now.graph.now.code.nodes }
+    requires entry { call.entry < length case.now.claim.now.graph.now.code.nodes }
     requires to { n < length case.now.claim.now.graph.now.code.nodes }
-    requires instruction { text.instr_at (text_in case.now.claim.now) (at_of case.now k) ≡ Some i }
+    requires instruction { text.instr_at (text_in case.now.claim.now) (at_of case.now call.from) ≡ Some call.instr }
     ensures { result ≡ true → IsBackSo (text_in case.now.claim.now) (values_in case.now.claim.now) (stacks_in case.now.claim.now)
-        (cert case.now) case.now.note.now.header (at_of case.now k) (at_of case.now h) (at_of case.now n) }
+        (cert case.now) case.now.note.now.header (at_of case.now call.from) (at_of case.now call.entry) (at_of case.now n) }
 {
     if n == case.header {
-        return is_turn_back(case, i, k, h);
+        return is_turn_back(case, call);
     }
-    !is_body(case.claim, case.table, n) || are_back(case, i, k, h, n)
+    !is_body(case.claim, case.table, n) || are_back(case, call, n)
 }
 
 // An edge from node k to node n.
@@ -251,11 +265,12 @@ fn steps_so(case: &TurnCase<'_>, i: Instr, k: usize, e: usize) -> bool
     requires case { IsTurnCase case.now }
     requires node { k < length case.now.claim.now.graph.now.code.nodes }
     requires edge { e < length case.now.claim.now.graph.now.code.edges }
-    ensures { result ≡ true → (b : ℕ) → (graph case.now.claim.now.graph.now).target e ≡ Some b → (graph case.now.claim.now.graph.now).callee e ≡ None →
-        IsStepSo (values_in case.now.claim.now) (stacks_in case.now.claim.now) (cert case.now) case.now.note.now.header (at_of case.now k) i b }
+    ensures { result ≡ true → (b : ℕ) → (graph case.now.claim.now.graph.now).target e ≡ Some b
+        → (graph case.now.claim.now.graph.now).callee e ≡ None →
+        relating.IsPossible (values_in case.now.claim.now) (at_of case.now k) i b → IsStepSo (values_in case.now.claim.now) (stacks_in case.now.claim.now) (cert case.now) case.now.note.now.header (at_of case.now k) i b }
 {
     match (case.claim.graph.callee(e), case.claim.graph.target(e)) {
-        (None, Some(n)) => is_step_so(case, i, k, n),
+        (None, Some(n)) => is_possible_so(case, i, k, n),
         _ => true,
     }
 }
@@ -266,11 +281,19 @@ fn comes_back_so(case: &TurnCase<'_>, i: Instr, k: usize, e: usize) -> bool
     requires node { k < length case.now.claim.now.graph.now.code.nodes }
     requires edge { e < length case.now.claim.now.graph.now.code.edges }
     requires instruction { text.instr_at (text_in case.now.claim.now) (at_of case.now k) ≡ Some i }
-    ensures { result ≡ true → (f b : ℕ) → (graph case.now.claim.now.graph.now).callee e ≡ Some f → (graph case.now.claim.now.graph.now).target e ≡ Some b →
+    ensures { result ≡ true → (f b : ℕ) → (graph case.now.claim.now.graph.now).callee e ≡ Some f
+        → (graph case.now.claim.now.graph.now).target e ≡ Some b →
         IsBackSo (text_in case.now.claim.now) (values_in case.now.claim.now) (stacks_in case.now.claim.now) (cert case.now) case.now.note.now.header (at_of case.now k) ((graph case.now.claim.now.graph.now).entry f) b }
 {
     match (case.claim.graph.callee(e), case.claim.graph.target(e)) {
-        (Some(f), Some(n)) => is_back_so(case, i, k, case.claim.graph.entry_node(f), n),
+        (Some(f), Some(n)) => {
+            let call = Call {
+                instr: i,
+                from: k,
+                entry: case.claim.graph.entry_node(f),
+            };
+            is_back_so(case, call, n)
+        }
         _ => true,
     }
 }

@@ -10,7 +10,7 @@ use crate::backs::{is_own_back, is_row_back};
 use crate::made::{is_row_over, is_word_over};
 use crate::relations::arc;
 use crate::rows::is_used;
-use crate::tables::{Relation, TurnCase, TurnKind, TurnPlace, TurnTable};
+use crate::tables::{Call, Relation, TurnCase, TurnKind, TurnPlace, TurnTable};
 use crate::using::is_used_over;
 use scale_base::Instr;
 use wrapped_intervals::{Arc, covers, scaled};
@@ -38,6 +38,7 @@ fn is_turned(table: &TurnTable) -> bool
             is_moved(factor, low, more, table.least, table.width)
         }
         (TurnKind::Lowers, Relation::Below(less, _)) => table.least <= less,
+        (TurnKind::Raises(_), Relation::Above(more)) => table.least <= more,
         (TurnKind::Halves(_), Relation::Below(_, shift)) => table.least <= shift,
         _ => false,
     }
@@ -52,10 +53,8 @@ fn is_place_over(case: &TurnCase<'_>, i: Instr, k: usize) -> bool
 {
     let end = case.table.end;
     match case.table.place {
-        TurnPlace::Register(r) => {
-            0 < r && r < 32 && is_row_over(case.claim, case.table, i, k, r, end)
-        }
-        TurnPlace::Word(word) => is_word_over(case.claim, case.table, i, k, word, end),
+        TurnPlace::Register(r) => { 0 < r && r < 32 && is_row_over(case, i, k, r, end) }
+        TurnPlace::Word(word) => is_word_over(case, i, k, word, end),
     }
 }
 
@@ -67,6 +66,7 @@ fn is_halving(kind: TurnKind) -> bool
         TurnKind::Halves(_) => true,
         TurnKind::Moves(_, _) => false,
         TurnKind::Lowers => false,
+        TurnKind::Raises(_) => false,
     }
 }
 
@@ -86,38 +86,36 @@ pub fn is_turn_over(case: &TurnCase<'_>, i: Instr, k: usize) -> bool
     !is_halving(case.table.kind) || is_used_over(case, i, k, case.header)
 }
 
-// Whether the relation at the end of a turn is one behind a call at node k of the function that begins at node h.
-fn is_place_back(case: &TurnCase<'_>, i: Instr, k: usize, h: usize) -> bool
+// Whether the relation at the end of a turn is one behind a call.
+fn is_place_back(case: &TurnCase<'_>, call: Call) -> bool
     requires case { IsTurnCase case.now }
-    requires from { k < length case.now.claim.now.graph.now.code.nodes }
-    requires entry { h < length case.now.claim.now.graph.now.code.nodes }
-    requires instruction { text.instr_at (text_in case.now.claim.now) (at_of case.now k) ≡ Some i }
+    requires from { call.from < length case.now.claim.now.graph.now.code.nodes }
+    requires entry { call.entry < length case.now.claim.now.graph.now.code.nodes }
+    requires instruction { text.instr_at (text_in case.now.claim.now) (at_of case.now call.from) ≡ Some call.instr }
     ensures { result ≡ true → relating.IsPlaceBack (text_in case.now.claim.now) (values_in case.now.claim.now)
-        (stacks_in case.now.claim.now) (cert case.now) (at_of case.now k) (at_of case.now h) (place_view case.now.table.now.place)
-        (relation_view case.now.table.now.end) }
+        (stacks_in case.now.claim.now) (cert case.now) (at_of case.now call.from) (at_of case.now call.entry)
+        (place_view case.now.table.now.place) (relation_view case.now.table.now.end) }
 {
     match case.table.place {
-        TurnPlace::Register(r) => {
-            0 < r && r < 32 && is_row_back(case, i, k, h, r, case.table.end)
-        }
-        TurnPlace::Word(_) => is_own_back(case, k, h, case.table.end),
+        TurnPlace::Register(r) => { 0 < r && r < 32 && is_row_back(case, call, r, case.table.end) }
+        TurnPlace::Word(_) => is_own_back(case, call.from, call.entry, case.table.end),
     }
 }
 
 /// Whether a call ends a turn as the table says.
-pub fn is_turn_back(case: &TurnCase<'_>, i: Instr, k: usize, h: usize) -> bool
+pub fn is_turn_back(case: &TurnCase<'_>, call: Call) -> bool
     requires case { IsTurnCase case.now }
-    requires from { k < length case.now.claim.now.graph.now.code.nodes }
-    requires entry { h < length case.now.claim.now.graph.now.code.nodes }
-    requires instruction { text.instr_at (text_in case.now.claim.now) (at_of case.now k) ≡ Some i }
+    requires from { call.from < length case.now.claim.now.graph.now.code.nodes }
+    requires entry { call.entry < length case.now.claim.now.graph.now.code.nodes }
+    requires instruction { text.instr_at (text_in case.now.claim.now) (at_of case.now call.from) ≡ Some call.instr }
     ensures { result ≡ true → relating.IsTurnBack (text_in case.now.claim.now) (values_in case.now.claim.now)
-        (stacks_in case.now.claim.now) (cert case.now) (at_of case.now k) (at_of case.now h) }
+        (stacks_in case.now.claim.now) (cert case.now) (at_of case.now call.from) (at_of case.now call.entry) }
 {
     if !is_turned(case.table) {
         return false;
     }
-    if !is_place_back(case, i, k, h) {
+    if !is_place_back(case, call) {
         return false;
     }
-    !is_halving(case.table.kind) || is_used(case.claim, case.table, k)
+    !is_halving(case.table.kind) || is_used(case.claim, case.table, call.from)
 }

@@ -3,6 +3,7 @@
 #![tactic(auto)]
 
 mod backs;
+mod compared;
 mod edges;
 mod ends;
 mod made;

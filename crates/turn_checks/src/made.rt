@@ -8,11 +8,11 @@ ghost use Rattle.turn_laws.specs.Relating as relating;
 ghost use Rattle.turn_checks.specs.Turned.{AreTurns, certificate_in, relation_view};
 
 use crate::relations::{
-    is_divided, is_low, is_lowered, is_moved_back, is_moved_by_arc, is_moved_by_number, is_weaker,
-    least_of,
+    is_divided, is_low, is_lowered, is_moved_back, is_moved_by_arc, is_moved_by_number,
+    is_multiplied, is_weaker, least_of,
 };
 use crate::rows::{own_at, relation_at, row_at};
-use crate::tables::{Relation, TurnPlace, TurnTable};
+use crate::tables::{Relation, TurnCase, TurnPlace, TurnTable};
 use scale_base::{ImmOp, Instr, RegOp};
 use stack_tables::{StackClaim, held_at, is_missed, loaded_to, stored_from};
 use wrapped_intervals::keeps;
@@ -54,7 +54,12 @@ fn is_made_by_number(
             rd: _,
             rs1,
             imm,
-        } => is_moved_by_number(b, relation_at(claim, table, k, rs1), imm.cast_unsigned()),
+        } => is_moved_by_number(
+            b,
+            relation_at(claim, table, k, rs1),
+            held_at(claim, k, rs1),
+            imm.cast_unsigned(),
+        ),
         Instr::Imm {
             op: ImmOp::Andi,
             rd: _,
@@ -65,6 +70,17 @@ fn is_made_by_number(
             relation_at(claim, table, k, rs1),
             0,
             held_at(claim, k, rs1).is_some(),
+        ),
+        Instr::Imm {
+            op: ImmOp::Slli,
+            rd: _,
+            rs1,
+            imm,
+        } => is_multiplied(
+            b,
+            relation_at(claim, table, k, rs1),
+            held_at(claim, k, rs1),
+            imm.cast_unsigned() % 32,
         ),
         Instr::Imm {
             op: ImmOp::Srli,
@@ -112,13 +128,34 @@ fn is_made_by_register(
             rd: _,
             rs1,
             rs2,
-        } => is_moved_by_arc(b, relation_at(claim, table, k, rs1), held_at(claim, k, rs2)),
+        } => is_moved_by_arc(
+            b,
+            relation_at(claim, table, k, rs1),
+            held_at(claim, k, rs1),
+            held_at(claim, k, rs2),
+        ),
         Instr::Reg {
             op: RegOp::Sub,
             rd: _,
             rs1,
             rs2,
-        } => is_moved_back(b, relation_at(claim, table, k, rs1), held_at(claim, k, rs2)),
+        } => is_moved_back(
+            b,
+            relation_at(claim, table, k, rs1),
+            held_at(claim, k, rs1),
+            held_at(claim, k, rs2),
+        ),
+        Instr::Reg {
+            op: RegOp::And,
+            rd: _,
+            rs1,
+            rs2: _,
+        } => is_lowered(
+            b,
+            relation_at(claim, table, k, rs1),
+            0,
+            held_at(claim, k, rs1).is_some(),
+        ),
         Instr::Reg {
             op: RegOp::Mulhu,
             rd: _,
@@ -170,7 +207,23 @@ fn is_made_too(claim: &StackClaim<'_>, table: &TurnTable, i: Instr, k: usize, b:
             rd: _,
             rs1,
             rs2,
-        } => is_moved_by_arc(b, relation_at(claim, table, k, rs2), held_at(claim, k, rs1)),
+        } => is_moved_by_arc(
+            b,
+            relation_at(claim, table, k, rs2),
+            held_at(claim, k, rs2),
+            held_at(claim, k, rs1),
+        ),
+        Instr::Reg {
+            op: RegOp::And,
+            rd: _,
+            rs1: _,
+            rs2,
+        } => is_lowered(
+            b,
+            relation_at(claim, table, k, rs2),
+            0,
+            held_at(claim, k, rs2).is_some(),
+        ),
         Instr::Reg {
             op: RegOp::Mulhu,
             rd: _,
@@ -187,137 +240,95 @@ fn is_made_too(claim: &StackClaim<'_>, table: &TurnTable, i: Instr, k: usize, b:
 }
 
 // Whether the instruction writes a register, of what has such a relation.
-fn is_made_over(
-    claim: &StackClaim<'_>,
-    table: &TurnTable,
-    i: Instr,
-    k: usize,
-    r: u8,
-    b: Relation,
-) -> bool
-    requires claim { IsStackClaim claim.now }
-    requires node { k < length claim.now.graph.now.code.nodes }
-    requires sized { AreTurns claim.now.graph.now.code.nodes table.now }
-    ensures { result ≡ true → relating.IsMadeOver (values_in claim.now) (certificate_in claim.now table.now) (address claim.now k) i r
-        (relation_view b) }
+fn is_made_over(case: &TurnCase<'_>, i: Instr, k: usize, r: u8, b: Relation) -> bool
+    requires claim { IsStackClaim case.now.claim.now }
+    requires node { k < length case.now.claim.now.graph.now.code.nodes }
+    requires sized { AreTurns case.now.claim.now.graph.now.code.nodes case.now.table.now }
+    ensures { result ≡ true → relating.IsMadeOver (values_in case.now.claim.now) (certificate_in case.now.claim.now case.now.table.now)
+        (address case.now.claim.now k) i r (relation_view b) }
 {
     if keeps(r, i) {
         return false;
     }
-    is_made_by_number(claim, table, i, k, b)
-        || is_made_by_register(claim, table, i, k, b)
-        || is_made_too(claim, table, i, k, b)
+    is_made_by_number(case.claim, case.table, i, k, b)
+        || is_made_by_register(case.claim, case.table, i, k, b)
+        || is_made_too(case.claim, case.table, i, k, b)
 }
 
 // Whether a word is loaded to a register.
-fn is_loaded_as(
-    claim: &StackClaim<'_>,
-    table: &TurnTable,
-    i: Instr,
-    k: usize,
-    word: u32,
-    r: u8,
-    b: Relation,
-) -> bool
+fn is_loaded_to(claim: &StackClaim<'_>, i: Instr, k: usize, word: u32, r: u8) -> bool
     requires claim { IsStackClaim claim.now }
     requires node { k < length claim.now.graph.now.code.nodes }
-    requires sized { AreTurns claim.now.graph.now.code.nodes table.now }
-    ensures { result ≡ true → stacks.IsLoadedTo (stacks_in claim.now) (address claim.now k) i word r ×
-        relating.IsWeaker (relation_view b) ((certificate_in claim.now table.now).own (address claim.now k)) }
+    ensures { result ≡ true → stacks.IsLoadedTo (stacks_in claim.now) (address claim.now k) i word r }
 {
     match loaded_to(claim, i, k) {
-        Some((number, register)) => {
-            number == word && register == r && is_weaker(b, own_at(claim, table, k))
-        }
+        Some((number, register)) => number == word && register == r,
         None => false,
     }
 }
 
 // Whether the word that is counted in is loaded.
-fn is_loaded_own(
-    claim: &StackClaim<'_>,
-    table: &TurnTable,
-    i: Instr,
-    k: usize,
-    r: u8,
-    b: Relation,
-) -> bool
-    requires claim { IsStackClaim claim.now }
-    requires node { k < length claim.now.graph.now.code.nodes }
-    requires sized { AreTurns claim.now.graph.now.code.nodes table.now }
-    ensures { result ≡ true → relating.IsLoadedOwn (stacks_in claim.now) (certificate_in claim.now table.now) (address claim.now k) i r
-        (relation_view b) }
+fn is_loaded_own(case: &TurnCase<'_>, i: Instr, k: usize, r: u8, b: Relation) -> bool
+    requires claim { IsStackClaim case.now.claim.now }
+    requires node { k < length case.now.claim.now.graph.now.code.nodes }
+    requires sized { AreTurns case.now.claim.now.graph.now.code.nodes case.now.table.now }
+    ensures { result ≡ true → relating.IsLoadedOwn (stacks_in case.now.claim.now) (certificate_in case.now.claim.now case.now.table.now)
+        (address case.now.claim.now k) i r (relation_view b) }
 {
-    match table.place {
-        TurnPlace::Word(word) => is_loaded_as(claim, table, i, k, word, r, b),
+    match case.table.place {
+        TurnPlace::Word(word) => {
+            if !is_loaded_to(case.claim, i, k, word, r) {
+                return false;
+            }
+            is_weaker(b, own_at(case.claim, case.table, k))
+        }
         TurnPlace::Register(_) => false,
     }
 }
 
 /// Whether a relation is one of a register behind the instruction of node k.
-pub fn is_row_over(
-    claim: &StackClaim<'_>,
-    table: &TurnTable,
-    i: Instr,
-    k: usize,
-    r: u8,
-    b: Relation,
-) -> bool
-    requires claim { IsStackClaim claim.now }
-    requires node { k < length claim.now.graph.now.code.nodes }
-    requires sized { AreTurns claim.now.graph.now.code.nodes table.now }
-    ensures { result ≡ true → relating.IsRowOver (values_in claim.now) (stacks_in claim.now) (certificate_in claim.now table.now)
-        (address claim.now k) i r (relation_view b) }
+pub fn is_row_over(case: &TurnCase<'_>, i: Instr, k: usize, r: u8, b: Relation) -> bool
+    requires claim { IsStackClaim case.now.claim.now }
+    requires node { k < length case.now.claim.now.graph.now.code.nodes }
+    requires sized { AreTurns case.now.claim.now.graph.now.code.nodes case.now.table.now }
+    ensures { result ≡ true → relating.IsRowOver (values_in case.now.claim.now) (stacks_in case.now.claim.now)
+        (certificate_in case.now.claim.now case.now.table.now) (address case.now.claim.now k) i r (relation_view b) }
 {
     if is_unknown(b) {
         return true;
     }
     if keeps(r, i) {
-        return is_weaker(b, row_at(claim, table, k, r));
+        return is_weaker(b, row_at(case.claim, case.table, k, r));
     }
-    is_made_over(claim, table, i, k, r, b) || is_loaded_own(claim, table, i, k, r, b)
+    is_made_over(case, i, k, r, b) || is_loaded_own(case, i, k, r, b)
 }
 
 // Whether a register is stored to the word.
-fn is_stored_own(
-    claim: &StackClaim<'_>,
-    table: &TurnTable,
-    i: Instr,
-    k: usize,
-    word: u32,
-    b: Relation,
-) -> bool
-    requires claim { IsStackClaim claim.now }
-    requires node { k < length claim.now.graph.now.code.nodes }
-    requires sized { AreTurns claim.now.graph.now.code.nodes table.now }
-    ensures { result ≡ true → relating.IsWordOver (values_in claim.now) (stacks_in claim.now) (certificate_in claim.now table.now)
-        (address claim.now k) i word (relation_view b) }
+fn is_stored_own(case: &TurnCase<'_>, i: Instr, k: usize, word: u32, b: Relation) -> bool
+    requires claim { IsStackClaim case.now.claim.now }
+    requires node { k < length case.now.claim.now.graph.now.code.nodes }
+    requires sized { AreTurns case.now.claim.now.graph.now.code.nodes case.now.table.now }
+    ensures { result ≡ true → relating.IsWordOver (values_in case.now.claim.now) (stacks_in case.now.claim.now)
+        (certificate_in case.now.claim.now case.now.table.now) (address case.now.claim.now k) i word (relation_view b) }
 {
-    match stored_from(claim, i, k) {
+    match stored_from(case.claim, i, k) {
         Some((number, register)) => {
-            number == word && is_weaker(b, relation_at(claim, table, k, register))
+            number == word && is_weaker(b, relation_at(case.claim, case.table, k, register))
         }
         None => false,
     }
 }
 
 /// Whether a relation is one of a word of the stack behind the instruction of node k.
-pub fn is_word_over(
-    claim: &StackClaim<'_>,
-    table: &TurnTable,
-    i: Instr,
-    k: usize,
-    word: u32,
-    b: Relation,
-) -> bool
-    requires claim { IsStackClaim claim.now }
-    requires node { k < length claim.now.graph.now.code.nodes }
-    requires sized { AreTurns claim.now.graph.now.code.nodes table.now }
-    ensures { result ≡ true → relating.IsWordOver (values_in claim.now) (stacks_in claim.now) (certificate_in claim.now table.now)
-        (address claim.now k) i word (relation_view b) }
+pub fn is_word_over(case: &TurnCase<'_>, i: Instr, k: usize, word: u32, b: Relation) -> bool
+    requires claim { IsStackClaim case.now.claim.now }
+    requires node { k < length case.now.claim.now.graph.now.code.nodes }
+    requires sized { AreTurns case.now.claim.now.graph.now.code.nodes case.now.table.now }
+    ensures { result ≡ true → relating.IsWordOver (values_in case.now.claim.now) (stacks_in case.now.claim.now)
+        (certificate_in case.now.claim.now case.now.table.now) (address case.now.claim.now k) i word (relation_view b) }
 {
-    if is_weaker(b, own_at(claim, table, k)) && is_missed(claim, i, k, word) {
+    if is_weaker(b, own_at(case.claim, case.table, k)) && is_missed(case.claim, i, k, word) {
         return true;
     }
-    is_stored_own(claim, table, i, k, word, b)
+    is_stored_own(case, i, k, word, b)
 }

@@ -16,7 +16,7 @@ ghost use Rattle.turn_laws.specs.Relating.Place.{in_register};
 ghost use Rattle.turn_checks.specs.Turned.{at_of, cert, certificate_of, kind_view, place_view, AreTurns, IsEntrySo, IsHeaderSo, IsTurnCase, AreEdgesTurned};
 
 use crate::edges::is_edge_turned;
-use crate::relations::is_begun;
+use crate::relations::{ends_of, is_begun};
 use crate::rows::{is_body, is_quiet, is_used, own_at, row_at};
 use crate::tables::{Relation, TurnCase, TurnKind, TurnPlace, TurnTable};
 use flow_graph::CodeGraph;
@@ -57,6 +57,15 @@ fn is_short(i: Option<Arc>, bits: u32, least: u32, width: u32) -> bool
     top_of(i) < 1u64 << bits && u64::from(bits) + u64::from(least) <= u64::from(width) + 1
 }
 
+// Whether a number is at least so much, and so much more at most.
+fn is_between(i: Option<Arc>, from: u32, width: u32) -> bool
+    requires { IsKeptOr i }
+    ensures { result ≡ true → (from ≤ values.least_of i) × (values.top_of i ≤ from + width) }
+{
+    let ends = ends_of(i);
+    u64::from(from) <= ends.least && ends.top <= u64::from(from) + u64::from(width)
+}
+
 // Whether what is counted in is at the header what its kind says, by its interval there.
 fn is_started(table: &TurnTable, i: Option<Arc>) -> bool
     requires { IsKeptOr i }
@@ -68,6 +77,7 @@ fn is_started(table: &TurnTable, i: Option<Arc>) -> bool
             sum_with(scaled(u64::from(factor), i), u64::from(shift)),
         ),
         TurnKind::Lowers => top_of(i) <= u64::from(table.width),
+        TurnKind::Raises(from) => is_between(i, from, table.width),
         TurnKind::Halves(bits) => is_short(i, bits, table.least, table.width),
     }
 }

@@ -1,16 +1,18 @@
 //! What each turn of a loop makes of a register or a word of the stack, as a table.
 
 use loop_file::LoopNote;
+use scale_base::Instr;
 use stack_tables::StackClaim;
 
 /// What is known of a value by the number that stood in the counted place when the header was last come to: nothing; that it is more by a
-/// number of the interval from the first on, with so many more, modulo 2^32; or that it, and so much more, is at most that number shifted
-/// to the right so many times.
+/// number of the interval from the first on, with so many more, modulo 2^32; that it, and so much more, is at most that number shifted to the
+/// right so many times; or that it is at least that number and so much more.
 #[derive(Clone, Copy)]
 pub enum Relation {
     Unknown,
     Ahead(u32, u32),
     Below(u32, u32),
+    Above(u32),
 }
 
 /// What is counted in: a register, or a word of the stack by its number.
@@ -20,12 +22,13 @@ pub enum TurnPlace {
     Word(u32),
 }
 
-/// How turns are counted: each moves a multiple of the number and a shift on, takes something away from the number, or halves it, where it
-/// has at most so many bits.
+/// How turns are counted: each moves a multiple of the number and a shift on, takes something away from the number, adds something to it,
+/// where it is so much at least, or halves it, where it has at most so many bits.
 #[derive(Clone, Copy)]
 pub enum TurnKind {
     Moves(u32, u32),
     Lowers,
+    Raises(u32),
     Halves(u32),
 }
 
@@ -54,4 +57,20 @@ pub struct TurnCase<'a> {
     pub note: &'a LoopNote,
     pub header: usize,
     pub table: &'a TurnTable,
+}
+
+/// A step that is no call: its instruction, the number of its node, and that of the node to which it leads.
+#[derive(Clone, Copy)]
+pub struct Step {
+    pub instr: Instr,
+    pub from: usize,
+    pub to: usize,
+}
+
+/// A call: its instruction, the number of its node, and that of the node at which the called function begins.
+#[derive(Clone, Copy)]
+pub struct Call {
+    pub instr: Instr,
+    pub from: usize,
+    pub entry: usize,
 }

@@ -20,17 +20,17 @@ use Rattle.graph_runs.specs.KeptSteps.{Carried, carried_first, source_of}
 use Rattle.graph_runs.specs.KeptRuns.{kept_at}
 use Rattle.graph_runs.proofs.Laws.{went_at}
 use Rattle.bound_laws.specs.Turning.{unasked, Leads}
-use Rattle.bound_laws.specs.Values.{IsHeld, IsRegister, passed, Values, AreBytes, Steps}
-use Rattle.bound_laws.proofs.Laws.{KeptStep, At, Onward, Way, fetched, over_edge, into_call, back_to, along, site_small, site_back, passed_in, no_turns}
+use Rattle.bound_laws.specs.Values.{IsHeld, IsImpossible, IsRegister, said, passed, Values, AreBytes, Steps}
+use Rattle.bound_laws.proofs.Laws.{KeptStep, At, Onward, Way, fetched, over_edge, into_call, back_to, along, site_small, site_back, passed_in, possible, so_behind, no_turns}
 use Rattle.stack_laws.specs.Stacks.{Stacks, View, view_of, IsRestored, IsSafe, IsStackInvariant, AreTold}
 use Rattle.stack_laws.proofs.Laws.{Holds, Returned, over_holds, call_holds, back_holds}
-use Rattle.turn_laws.specs.Relating.{Relation, IsRelated, IsWeaker, Place, stands_in, TurnCertificate, IsTurnCertificate, IsRowBack, IsOwnBack, IsOwnOver, IsPlaceBack, IsUsed, IsEvident}
+use Rattle.turn_laws.specs.Relating.{Relation, IsRelated, IsWeaker, Place, stands_in, TurnCertificate, IsTurnCertificate, IsRowBack, IsOwnBack, IsOwnOver, IsPlaceBack, IsPossible, IsUsed, IsEvident}
 use Rattle.turn_laws.specs.Relating.Relation.{unknown}
 use Rattle.turn_laws.specs.Relating.Place.{in_register, in_word}
 use Rattle.turn_laws.specs.Laws.{TurnCertificatesBoundTurns}
 use Rattle.turn_laws.proofs.Relations.{weaker_in, same_in}
 use Rattle.turn_laws.proofs.Facts.{Facts, few, fresh, turned}
-use Rattle.turn_laws.proofs.Steps.{row_holds, word_holds, place_holds, evident}
+use Rattle.turn_laws.proofs.Steps.{row_on, word_holds, place_holds, evident}
 use Rattle.turn_laws.proofs.Turns.{Level, Mode, IsPassedOn, turned as turned_so, along_edge, along_call, along_return, after_edge, after_call_to}
 use Rattle.turn_laws.proofs.Turns.Mode.{at_level}
 use Rattle.turn_laws.proofs.Turns.Level.{within, elsewhere}
@@ -101,11 +101,17 @@ module _ (t : Text) (env : Setting) (ok : IsTextOf t env) (code : Code) (is : Is
         subst (λ n. IsRelated (c.own b) facts.start ((view_of w begun next.regs next.bytes).words n)) f1
         (word_holds env keyless v w inv.offsets u at.over.zero at.over.size begun now.told i fetch x went c count facts q same (c.own b) over)
 
+    possible_on : (b : ℕ) → next.pc ≡ b → IsPossible v u.pc i b
+    possible_on b same h =
+        possible env keyless u (v.at u.pc) at.over.zero at.over.size now.told.registers.each now.memory (said i u.pc next.pc)
+        (so_behind env keyless u (v.at u.pc) at.over.zero at.over.size now.told.registers.each now.memory i x fetch went)
+        (subst (λ n. IsImpossible (said i u.pc n) (v.at u.pc)) (sym same) h)
+
     over_passed : Leads g u.pc next.pc → Steps g u.pc next.pc → (told : AreTold v w next.pc (view_of w begun next.regs next.bytes)) → Passed u.pc next.pc count (view_of w begun next.regs next.bytes)
     over_passed leads steps told = record {
       anew = λ e. fresh t g v w h (l.inside k) c cert (view_of w begun next.regs next.bytes) ons.zero ons.size (subst (λ a. AreTold v w a (view_of w begun next.regs next.bytes)) e told);
       turn = λ e _.
-          let q = cert.turns u.pc i (subst (λ n. Steps g u.pc n) e steps) now.told.registers.live inside there.1 in
+          let q = cert.turns u.pc i (subst (λ n. Steps g u.pc n) e steps) now.told.registers.live inside there.1 (possible_on h e) in
           turned t g v w h (l.inside k) c cert q.0.0 count facts.start (view_of w begun next.regs next.bytes) ons.zero ons.size
           (subst (λ a. AreTold v w a (view_of w begun next.regs next.bytes)) e told) facts.good
           (λ half. used_so h e (q.1 half))
@@ -113,9 +119,10 @@ module _ (t : Text) (env : Setting) (ok : IsTextOf t env) (code : Code) (is : Is
       on = λ other _ on. record {
         start = facts.start;
         good = facts.good;
-        rows = λ r q. row_holds env keyless v w inv.offsets u at.over.zero at.over.size begun now.told i fetch x went c count facts r q (c.row next.pc r) (cert.along u.pc next.pc r i steps now.told.registers.live inside on other there.1 q);
-        own = own_over c.place next.pc refl (cert.along_own u.pc next.pc i steps now.told.registers.live inside on other there.1);
-        used = λ q. used_so next.pc refl (cert.along_used u.pc next.pc i steps now.told.registers.live inside on other there.1 q);
+        rows = λ r q. row_on env keyless v w inv.offsets u at.over.zero at.over.size begun now.told i fetch x went c count facts r q now.memory next.pc refl (c.row next.pc r)
+            (cert.along u.pc next.pc r i steps now.told.registers.live inside on other there.1 (possible_on next.pc refl) q);
+        own = own_over c.place next.pc refl (cert.along_own u.pc next.pc i steps now.told.registers.live inside on other there.1 (possible_on next.pc refl));
+        used = λ q. used_so next.pc refl (cert.along_used u.pc next.pc i steps now.told.registers.live inside on other there.1 (possible_on next.pc refl) q);
       };
     }
 

@@ -12,10 +12,10 @@ use Rattle.bound_laws.specs.Values.{Arc, arc, strided, scaled, sum_with, IsHeld,
 use Rattle.bound_laws.proofs.Laws.{in_covers, in_exactly, scaled_in, sum_with_in, held_of, measure_adds, one_turn, small_sum}
 use Rattle.stack_laws.specs.Stacks.{Stacks, View, AreTold}
 use Rattle.turn_laws.specs.Relating.{Relation, IsRelated, Place, stands_in, Kind, TurnCertificate, IsTurnCertificate, IsTurned, IsStarted, IsBegun, place_arc, is_halving}
-use Rattle.turn_laws.specs.Relating.Relation.{unknown, ahead_by, below}
+use Rattle.turn_laws.specs.Relating.Relation.{unknown, ahead_by, below, above}
 use Rattle.turn_laws.specs.Relating.Place.{in_register, in_word}
-use Rattle.turn_laws.specs.Relating.Kind.{moves, lowers, halves}
-use Rattle.turn_laws.proofs.Relations.{over, under_top, divided_less}
+use Rattle.turn_laws.specs.Relating.Kind.{moves, lowers, raises, halves}
+use Rattle.turn_laws.proofs.Relations.{over, under_top, least_mod, divided_less}
 
 abbrev pub rank : (factor shift s : ℕ) → ℕ
 rank factor shift s = (shift + factor * s) % 2 ^ 32
@@ -24,6 +24,7 @@ rank factor shift s = (shift + factor * s) % 2 ^ 32
 abbrev pub IsGood : TurnCertificate → Kind → (count s : ℕ) → Type 0
 IsGood c (moves factor shift) count s = (count * c.least ≤ rank factor shift s) × (rank factor shift s ≤ c.width)
 IsGood c lowers count s = count * c.least + s ≤ c.width
+IsGood c (raises from) count s = (from + count * c.least ≤ s) × (s ≤ from + c.width)
 IsGood c (halves bits) count s = (s * 2 ^ (count * c.least) < 2 ^ bits) × (count * c.least ≤ c.width)
 
 pub record Facts (c : TurnCertificate) (a count : ℕ) (x : View) : Type 0 where
@@ -36,6 +37,7 @@ pub record Facts (c : TurnCertificate) (a count : ℕ) (x : View) : Type 0 where
 few_good : (c : TurnCertificate) (kind : Kind) (count s : ℕ) → IsGood c kind count s → count * c.least ≤ c.width
 few_good c (moves factor shift) count s g = let a = g.0 in let b = g.1 in omega arith
 few_good c lowers count s g = omega arith
+few_good c (raises from) count s g = let a = g.0 in let b = g.1 in omega arith
 few_good c (halves bits) count s g = g.1
 
 pub few : (c : TurnCertificate) (a count : ℕ) (x : View) → Facts c a count x → count * c.least ≤ c.width
@@ -65,6 +67,9 @@ rank_within width factor shift v i h covers =
 pub fresh_good : (c : TurnCertificate) (kind : Kind) (v : ℕ) (i : Option Arc) → IsHeld i v → IsStarted c kind i → IsGood c kind 0 (v % 2 ^ 32)
 fresh_good c (moves factor shift) v i h s = (let r : 0 * c.least ≤ rank factor shift (v % 2 ^ 32) = omega arith in r, rank_within c.width factor shift v i h s)
 fresh_good c lowers v i h s = let p = under_top i v h in let r : 0 * c.least + v % 2 ^ 32 ≤ c.width = omega arith in r
+fresh_good c (raises from) v i h s =
+    let p = under_top i v h in let q = least_mod i v h in let a = s.0 in let b = s.1 in
+    (let r : from + 0 * c.least ≤ v % 2 ^ 32 = omega arith in r, let r : v % 2 ^ 32 ≤ from + c.width = omega arith in r)
 fresh_good c (halves bits) v i h s =
     let p = under_top i v h in
     let a = s.0 in (
@@ -77,6 +82,7 @@ begun_in unknown v h = tt
 begun_in (ahead_by i) v h = (0, in_covers (Some (strided 0 0 0)) i 0 (in_exactly 0) h, let e : v % 2 ^ 32 ≡ (v % 2 ^ 32 + 0) % 2 ^ 32 = omega arith in e)
 begun_in (below l b) v h =
     subst (λ n. v % 2 ^ 32 + n ≤ v % 2 ^ 32 / 2 ^ b) (sym h.0) (subst (λ n. v % 2 ^ 32 + 0 ≤ v % 2 ^ 32 / 2 ^ n) (sym h.1) (let r : v % 2 ^ 32 + 0 ≤ v % 2 ^ 32 / 2 ^ 0 = omega arith in r))
+begun_in (above m) v h = let r : v % 2 ^ 32 + m ≤ v % 2 ^ 32 = omega arith in r
 
 module _ (t : Text) (g : Graph) (v : Values) (w : Stacks) (h : ℕ) (extent : ℕ → Bool) (c : TurnCertificate) (cert : IsTurnCertificate t g v w h extent c) where
   abbrev pub value : View → ℕ
@@ -119,6 +125,7 @@ module _ (t : Text) (g : Graph) (v : Values) (w : Stacks) (h : ℕ) (extent : �
       IsGood c kind (count + 1) (u % 2 ^ 32)
   turn_good (moves factor shift) unknown count start u i good some is turn at s = absurd turn
   turn_good (moves factor shift) (below l b) count start u i good some is turn at s = absurd turn
+  turn_good (moves factor shift) (above m) count start u i good some is turn at s = absurd turn
   turn_good (moves factor shift) (ahead_by j) count start u i good some is turn at s =
       let most : ℕ = turn.0 in
       let e : ℕ = factor * is.0 % 2 ^ 32 in
@@ -137,8 +144,19 @@ module _ (t : Text) (g : Graph) (v : Values) (w : Stacks) (h : ℕ) (extent : �
       let d : (count + 1) * c.least ≡ count * c.least + 1 * c.least = add-mul count 1 c.least in
       let q = div-le_self start (2 ^ b) in
       let r : (count + 1) * c.least + u % 2 ^ 32 ≤ c.width = omega arith in r
+  turn_good lowers (above m) count start u i good some is turn at s = absurd turn
+  turn_good (raises from) unknown count start u i good some is turn at s = absurd turn
+  turn_good (raises from) (ahead_by j) count start u i good some is turn at s = absurd turn
+  turn_good (raises from) (below l b) count start u i good some is turn at s = absurd turn
+  turn_good (raises from) (above m) count start u i good some is turn at s =
+      let d : (count + 1) * c.least ≡ count * c.least + 1 * c.least = add-mul count 1 c.least in
+      let p = under_top i u at in let a = good.0 in let b = s.1 in (
+        let r : from + (count + 1) * c.least ≤ u % 2 ^ 32 = omega arith in r,
+        let r : u % 2 ^ 32 ≤ from + c.width = omega arith in r,
+      )
   turn_good (halves bits) unknown count start u i good some is turn at s = absurd turn
   turn_good (halves bits) (ahead_by j) count start u i good some is turn at s = absurd turn
+  turn_good (halves bits) (above m) count start u i good some is turn at s = absurd turn
   turn_good (halves bits) (below l b) count start u i good some is turn at s =
       halved bits count start (u % 2 ^ 32) good.0 (some refl) (let q = divided_less start c.least b turn in omega arith) s.1
     where

@@ -1,18 +1,20 @@
 -- What instructions make of relations.
-use Rattle.std.proofs.Common.{◌≡◌, ℕ, ◌+◌, ◌-◌, ◌*◌, ◌/◌, ◌<◌, ◌≤◌, ◌%◌, ◌^◌, Bool, true, sym, ap, ◌∙◌, subst, arith, Option, Some, None}
-use Rattle.std.specs.Prelude.{pos, ◌==◌, nat_lt, is_some, bit_and, if◌then◌else◌}
+use Rattle.std.proofs.Common.{◌≡◌, ℕ, ◌+◌, ◌-◌, ◌*◌, ◌/◌, ◌<◌, ◌≤◌, ◌%◌, ◌^◌, Bool, true, false, refl, sym, ap, ◌∙◌, subst, arith, Option, Some, None}
+use Rattle.std.specs.Prelude.{pos, ◌==◌, ◌&&◌, not, int_lt, nat_lt, is_some, bit_and, if◌then◌else◌}
 use Rattle.std.specs.Int.{w32, int_shr}
 use Rattle.std.proofs.lemmas.Int.{to_z_pos}
-use Rattle.std.proofs.lemmas.Bool.{cond_both, ltb-true, eqb-true}
-use Rattle.std.proofs.lemmas.Nat.{and_le_l, le-div, pow_pos, pow-add}
-use Rattle.std.proofs.Math.Nat.{div-mul-le_self, div-le_of_le-mul, mul-le-mul_left, mul-le-mul_right, mul_comm, mul_assoc, mod-le, mod-lt, mod-eq_of_lt, pow-le-pow_right}
-use Rattle.scale_base.specs.Arith.{plus, signed, unsigned}
-use Rattle.bound_laws.specs.Values.{Arc, IsHeld, difference_of, negated, scaled, sum_of, least_of, top_of}
+use Rattle.std.proofs.lemmas.Bool.{and_parts, cond_both, ltb-false, ltb-true, eqb-true, not-true}
+use Rattle.std.proofs.lemmas.Nat.{and_le_l, and_le_r, le-div, pow_pos, pow-add}
+use Rattle.std.proofs.Math.Nat.{add-mul, div-mul-le_self, div-le_of_le-mul, mul-le-mul_left, mul-le-mul_right, mul_comm, mul_assoc, mod-le, mod-lt, mod-eq_of_lt, pow-le-pow_right}
+use Rattle.scale_base.specs.declared.instruction.BranchOp.{BranchOp}
+use Rattle.scale_base.specs.declared.instruction.BranchOp.TheVariants.{Beq, Bne, Blt, Bge, Bltu, Bgeu}
+use Rattle.scale_base.specs.Arith.{plus, signed, unsigned, is_taken}
+use Rattle.bound_laws.specs.Values.{Arc, IsHeld, difference_of, negated, sum_of, least_of, top_of}
 use Rattle.bound_laws.proofs.Laws.{in_covers, in_word, scaled_in, sum_in, sum_with_in, below_top}
-use Rattle.turn_laws.specs.Relating.{Relation, IsRelated, IsWeaker, moved_by_number, moved_by_arc, moved_back, divided, lowered, is_low}
-use Rattle.turn_laws.specs.Relating.Relation.{unknown, ahead_by, below}
+use Rattle.turn_laws.specs.Relating.{Relation, IsRelated, IsWeaker, moved_by_number, moved_by_arc, moved_back, multiplied, divided, lowered, is_low, greater, lesser, are_ordered, first_related, second_related}
+use Rattle.turn_laws.specs.Relating.Relation.{unknown, ahead_by, below, above}
 
-low_one : (a : ℕ) → a < 2 ^ 31 → signed a ≡ pos a
+pub low_one : (a : ℕ) → a < 2 ^ 31 → signed a ≡ pos a
 low_one a h = to_z_pos w32 a h
 
 -- ---- the ends of intervals
@@ -30,7 +32,7 @@ difference_in i (Some j) a b x y =
     let back : IsHeld (Some (negated j)) ((2 ^ 32 - 1) * b % 2 ^ 32) = scaled_in (2 ^ 32 - 1) (Some j) b y in
     subst (λ v. IsHeld (sum_of i (Some (negated j))) v) (sym (minus a b y.word)) (sum_in i (Some (negated j)) a ((2 ^ 32 - 1) * b % 2 ^ 32) x back)
 
-above_least : (j : Option Arc) (b : ℕ) → IsHeld j b → least_of j ≤ b
+pub above_least : (j : Option Arc) (b : ℕ) → IsHeld j b → least_of j ≤ b
 above_least None b y = omega arith
 above_least (Some j) b y = cond_both (nat_lt (j.low + j.more) (2 ^ 32)) _ _ (λ n. n ≤ b)
     (λ h. over j.low j.more b y.start y.word y.near (ltb-true (j.low + j.more) (2 ^ 32) h)) (λ _. omega arith)
@@ -38,6 +40,14 @@ above_least (Some j) b y = cond_both (nat_lt (j.low + j.more) (2 ^ 32)) _ _ (λ 
 pub under_top : (j : Option Arc) (b : ℕ) → IsHeld j b → b % 2 ^ 32 ≤ top_of j
 under_top None b y = omega arith
 under_top (Some j) b y = let p = below_top j b y in let q = mod-le b (2 ^ 32) in omega arith
+
+pub least_mod : (j : Option Arc) (b : ℕ) → IsHeld j b → least_of j ≤ b % 2 ^ 32
+least_mod None b y = omega arith
+least_mod (Some j) b y = let p = above_least (Some j) b y in let w = y.word in let e : b % 2 ^ 32 ≡ b = omega arith in omega arith
+
+word_of : (j : Option Arc) (b : ℕ) → 0 < least_of j → IsHeld j b → b < 2 ^ 32
+word_of None b some y = absurd (let bad : ⊥ = omega arith in bad)
+word_of (Some j) b some y = y.word
 
 pub held_word : (j : Option Arc) (b : ℕ) → is_some j ≡ true → IsHeld j b → b < 2 ^ 32
 held_word None b some y = let bad : ⊥ = cc in absurd bad
@@ -67,15 +77,22 @@ weaker_in unknown q s v h w = tt
 weaker_in (ahead_by i) (ahead_by j) s v h w = (h.0, in_covers j i h.0 h.1 w, h.2)
 weaker_in (ahead_by i) unknown s v h w = absurd w
 weaker_in (ahead_by i) (below l b) s v h w = absurd w
+weaker_in (ahead_by i) (above m) s v h w = absurd w
 weaker_in (below l b) (below m c) s v h w = let a = w.0 in let d = divided_less s b c w.1 in omega arith
 weaker_in (below l b) unknown s v h w = absurd w
 weaker_in (below l b) (ahead_by j) s v h w = absurd w
+weaker_in (below l b) (above m) s v h w = absurd w
+weaker_in (above m) (above n) s v h w = let r : s + m ≤ v % 2 ^ 32 = omega arith in r
+weaker_in (above m) unknown s v h w = absurd w
+weaker_in (above m) (ahead_by j) s v h w = absurd w
+weaker_in (above m) (below l b) s v h w = absurd w
 
 -- a value that is the same modulo 2^32
 pub same_in : (p : Relation) (s v u : ℕ) → u % 2 ^ 32 ≡ v % 2 ^ 32 → IsRelated p s v → IsRelated p s u
 same_in unknown s v u e h = tt
 same_in (ahead_by i) s v u e h = (h.0, h.1, e ∙ h.2)
 same_in (below l b) s v u e h = subst (λ n. n + l ≤ s / 2 ^ b) (sym e) h
+same_in (above m) s v u e h = subst (λ n. s + m ≤ n) (sym e) h
 
 -- ---- sums
 
@@ -85,26 +102,96 @@ more_ahead s d v n h = omega arith
 nothing_added : (v n : ℕ) → n % 2 ^ 32 ≡ 0 → (v + n) % 2 ^ 32 % 2 ^ 32 ≡ v % 2 ^ 32
 nothing_added v n h = omega arith
 
-pub number_in : (p : Relation) (n s v : ℕ) → IsRelated p s v → IsRelated (moved_by_number p n) s (plus v n)
-number_in unknown n s v h = tt
-number_in (ahead_by i) n s v h = (plus h.0 n, sum_with_in i n h.0 h.1, more_ahead s h.0 v n h.2)
-number_in (below l b) n s v h = cond_both (n == 0) (below l b) unknown (λ p. IsRelated p s (plus v n))
-    (λ e. same_in (below l b) s v (plus v n) (nothing_added v n (ap (λ k. k % 2 ^ 32) (eqb-true n 0 e))) h) (λ _. tt)
+-- what is taken away, and what is added, without wrapping
+less_taken : (v n l x : ℕ) → v < 2 ^ 32 → n < 2 ^ 32 → 2 ^ 32 ≤ v + n → v % 2 ^ 32 + l ≤ x → (v + n) % 2 ^ 32 % 2 ^ 32 + (l + (2 ^ 32 - n)) ≤ x
+less_taken v n l x a b c h = omega arith
 
-pub arc_in : (p : Relation) (j : Option Arc) (s v u : ℕ) → IsHeld j u → IsRelated p s v → IsRelated (moved_by_arc p j) s (plus v u)
-arc_in unknown j s v u k h = tt
-arc_in (ahead_by i) j s v u k h = (plus h.0 u, sum_in i j h.0 u h.1 k, more_ahead s h.0 v u h.2)
-arc_in (below l b) j s v u k h = cond_both (top_of j == 0) (below l b) unknown (λ p. IsRelated p s (plus v u))
+more_added : (v n m s : ℕ) → v % 2 ^ 32 + n < 2 ^ 32 → s + m ≤ v % 2 ^ 32 → s + (m + n) ≤ (v + n) % 2 ^ 32 % 2 ^ 32
+more_added v n m s a h = omega arith
+
+more_taken : (v n m s : ℕ) → n < 2 ^ 32 → 2 ^ 32 ≤ m + n → s + m ≤ v % 2 ^ 32 → s + (m + n - 2 ^ 32) ≤ (v + n) % 2 ^ 32 % 2 ^ 32
+more_taken v n m s a b h = omega arith
+
+both_added : (v u l m s : ℕ) → v % 2 ^ 32 + u % 2 ^ 32 < 2 ^ 32 → l ≤ u % 2 ^ 32 → s + m ≤ v % 2 ^ 32 → s + (m + l) ≤ (v + u) % 2 ^ 32 % 2 ^ 32
+both_added v u l m s a b h = omega arith
+
+less_back : (v u k l x : ℕ) → v < 2 ^ 32 → u < 2 ^ 32 → u ≤ v → k ≤ u → v % 2 ^ 32 + l ≤ x → (v + (2 ^ 32 - u)) % 2 ^ 32 % 2 ^ 32 + (l + k) ≤ x
+less_back v u k l x a b c d h = omega arith
+
+pub number_in : (p : Relation) (i : Option Arc) (n s v : ℕ) → IsHeld i v → IsRelated p s v → IsRelated (moved_by_number p i n) s (plus v n)
+number_in unknown i n s v k h = tt
+number_in (ahead_by j) i n s v k h = (plus h.0 n, sum_with_in j n h.0 h.1, more_ahead s h.0 v n h.2)
+number_in (below l b) i n s v k h = cond_both (n == 0) (below l b) _ (λ p. IsRelated p s (plus v n))
+    (λ e. same_in (below l b) s v (plus v n) (nothing_added v n (ap (λ k. k % 2 ^ 32) (eqb-true n 0 e))) h)
+    (λ _. cond_both (nat_lt n (2 ^ 32) && nat_lt (2 ^ 32 - 1) (least_of i + n)) (below (l + (2 ^ 32 - n)) b) unknown (λ p. IsRelated p s (plus v n))
+    (λ e. let q = and_parts (nat_lt n (2 ^ 32)) (nat_lt (2 ^ 32 - 1) (least_of i + n)) e in
+    let a : n < 2 ^ 32 = ltb-true n (2 ^ 32) q.0 in
+    let c : 2 ^ 32 - 1 < least_of i + n = ltb-true (2 ^ 32 - 1) (least_of i + n) q.1 in
+    let d = above_least i v k in
+    let w : v < 2 ^ 32 = word_of i v (omega arith) k in
+    less_taken v n l (s / 2 ^ b) w a (omega arith) h) (λ _. tt))
+number_in (above m) i n s v k h = cond_both (nat_lt (top_of i + n) (2 ^ 32)) (above (m + n)) _ (λ p. IsRelated p s (plus v n))
+    (λ e. let a : top_of i + n < 2 ^ 32 = ltb-true (top_of i + n) (2 ^ 32) e in let t = under_top i v k in more_added v n m s (omega arith) h)
+    (λ _. cond_both (nat_lt n (2 ^ 32) && nat_lt (2 ^ 32 - 1) (m + n)) (above (m + n - 2 ^ 32)) unknown (λ p. IsRelated p s (plus v n))
+    (λ e. let q = and_parts (nat_lt n (2 ^ 32)) (nat_lt (2 ^ 32 - 1) (m + n)) e in
+    let a : n < 2 ^ 32 = ltb-true n (2 ^ 32) q.0 in
+    let c : 2 ^ 32 - 1 < m + n = ltb-true (2 ^ 32 - 1) (m + n) q.1 in
+    more_taken v n m s a (omega arith) h) (λ _. tt))
+
+pub arc_in : (p : Relation) (i j : Option Arc) (s v u : ℕ) → IsHeld i v → IsHeld j u → IsRelated p s v → IsRelated (moved_by_arc p i j) s (plus v u)
+arc_in unknown i j s v u g k h = tt
+arc_in (ahead_by l) i j s v u g k h = (plus h.0 u, sum_in l j h.0 u h.1 k, more_ahead s h.0 v u h.2)
+arc_in (below l b) i j s v u g k h = cond_both (top_of j == 0) (below l b) unknown (λ p. IsRelated p s (plus v u))
     (λ e. let z : top_of j ≡ 0 = eqb-true (top_of j) 0 e in let t = under_top j u k in
     let none : u % 2 ^ 32 ≡ 0 = omega arith in same_in (below l b) s v (plus v u) (nothing_added v u none) h) (λ _. tt)
+arc_in (above m) i j s v u g k h = cond_both (nat_lt (top_of i + top_of j) (2 ^ 32)) (above (m + least_of j)) unknown (λ p. IsRelated p s (plus v u))
+    (λ e. let a : top_of i + top_of j < 2 ^ 32 = ltb-true (top_of i + top_of j) (2 ^ 32) e in
+    let x = under_top i v g in let y = under_top j u k in
+    both_added v u (least_of j) m s (omega arith) (least_mod j u k) h) (λ _. tt)
 
-pub sum_both_in : (p : Relation) (j : Option Arc) (s v u : ℕ) → IsHeld j u → IsRelated p s v → IsRelated (moved_by_arc p j) s (plus u v)
-sum_both_in p j s v u k h = subst (λ n. IsRelated (moved_by_arc p j) s (n % 2 ^ 32)) (let e : v + u ≡ u + v = omega arith in e) (arc_in p j s v u k h)
+pub sum_both_in : (p : Relation) (i j : Option Arc) (s v u : ℕ) → IsHeld i v → IsHeld j u → IsRelated p s v → IsRelated (moved_by_arc p i j) s (plus u v)
+sum_both_in p i j s v u g k h = subst (λ n. IsRelated (moved_by_arc p i j) s (n % 2 ^ 32)) (let e : v + u ≡ u + v = omega arith in e) (arc_in p i j s v u g k h)
 
-pub back_in : (p : Relation) (j : Option Arc) (s v u : ℕ) → IsHeld j u → IsRelated p s v → IsRelated (moved_back p j) s ((v + (2 ^ 32 - u)) % 2 ^ 32)
-back_in unknown j s v u k h = tt
-back_in (ahead_by i) j s v u k h = ((h.0 + (2 ^ 32 - u)) % 2 ^ 32, difference_in i j h.0 u h.1 k, more_ahead s h.0 v (2 ^ 32 - u) h.2)
-back_in (below l b) j s v u k h = tt
+pub back_in : (p : Relation) (i j : Option Arc) (s v u : ℕ) → IsHeld i v → IsHeld j u → IsRelated p s v → IsRelated (moved_back p i j) s ((v + (2 ^ 32 - u)) % 2 ^ 32)
+back_in unknown i j s v u g k h = tt
+back_in (ahead_by l) i j s v u g k h = ((h.0 + (2 ^ 32 - u)) % 2 ^ 32, difference_in l j h.0 u h.1 k, more_ahead s h.0 v (2 ^ 32 - u) h.2)
+back_in (below l b) i j s v u g k h = cond_both ((is_some i && is_some j) && not (nat_lt (least_of i) (top_of j))) (below (l + least_of j) b) unknown
+    (λ p. IsRelated p s ((v + (2 ^ 32 - u)) % 2 ^ 32))
+    (λ e. let q = and_parts (is_some i && is_some j) (not (nat_lt (least_of i) (top_of j))) e in
+    let both = and_parts (is_some i) (is_some j) q.0 in
+    let x : v < 2 ^ 32 = held_word i v both.0 g in
+    let y : u < 2 ^ 32 = held_word j u both.1 k in
+    let order : top_of j ≤ least_of i = ltb-false (least_of i) (top_of j) (not-true (nat_lt (least_of i) (top_of j)) q.1) in
+    let t = under_top j u k in let m : u % 2 ^ 32 ≡ u = mod-eq_of_lt y in let f = above_least i v g in
+    less_back v u (least_of j) l (s / 2 ^ b) x y (omega arith) (above_least j u k) h) (λ _. tt)
+back_in (above m) i j s v u g k h = tt
+
+-- ---- products
+
+power_times : (v n : ℕ) → v * 2 ^ n ≡ v * (2 ^ n - 1) + v
+power_times v n =
+    let some = pow_pos n in
+    let e : 2 ^ n ≡ (2 ^ n - 1) + 1 = omega arith in
+    let one : 1 * v ≡ v = omega arith in
+    mul_comm v (2 ^ n) ∙ (ap (λ x. x * v) e ∙ (add-mul (2 ^ n - 1) 1 v ∙ (ap (λ x. (2 ^ n - 1) * v + x) one ∙ ap (λ x. x + v) (mul_comm (2 ^ n - 1) v))))
+
+pub product_in : (p : Relation) (i : Option Arc) (n s v : ℕ) → IsHeld i v → IsRelated p s v → IsRelated (multiplied p i n) s (v * 2 ^ n % 2 ^ 32)
+product_in unknown i n s v k h = tt
+product_in (ahead_by j) i n s v k h = tt
+product_in (below l b) i n s v k h = tt
+product_in (above m) i n s v k h = cond_both (is_some i && nat_lt (top_of i * 2 ^ n) (2 ^ 32)) (above (m + least_of i * (2 ^ n - 1))) unknown
+    (λ p. IsRelated p s (v * 2 ^ n % 2 ^ 32))
+    (λ e. let q = and_parts (is_some i) (nat_lt (top_of i * 2 ^ n) (2 ^ 32)) e in
+    let w : v < 2 ^ 32 = held_word i v q.0 k in
+    let lt : top_of i * 2 ^ n < 2 ^ 32 = ltb-true (top_of i * 2 ^ n) (2 ^ 32) q.1 in
+    let t = under_top i v k in let same : v % 2 ^ 32 ≡ v = mod-eq_of_lt w in
+    let most : v * 2 ^ n ≤ top_of i * 2 ^ n = mul-le-mul_right (2 ^ n) (let r : v ≤ top_of i = omega arith in r) in
+    let least : least_of i * (2 ^ n - 1) ≤ v * (2 ^ n - 1) = mul-le-mul_right (2 ^ n - 1) (above_least i v k) in
+    let sum = power_times v n in
+    go (v * 2 ^ n) (v * (2 ^ n - 1)) (least_of i * (2 ^ n - 1)) (omega arith) sum least (omega arith)) (λ _. tt)
+  where
+    go : (x y z : ℕ) → x < 2 ^ 32 → x ≡ y + v → z ≤ y → s + m ≤ v → s + (m + z) ≤ x % 2 ^ 32 % 2 ^ 32
+    go x y z a b c d = omega arith
 
 -- ---- divisions
 
@@ -125,6 +212,7 @@ order_divided a b n some h =
 pub divided_in : (p : Relation) (n : ℕ) (word : Bool) (s v u : ℕ) → (word ≡ true → u % 2 ^ 32 ≤ v % 2 ^ 32 / 2 ^ n) → IsRelated p s v → IsRelated (divided p n word) s u
 divided_in unknown n word s v u h k = tt
 divided_in (ahead_by i) n word s v u h k = tt
+divided_in (above m) n word s v u h k = tt
 divided_in (below l b) n word s v u h k = cond_both word (below 0 (b + n)) unknown (λ p. IsRelated p s u)
     (λ e. let a = h e in
     let c : v % 2 ^ 32 / 2 ^ n ≤ s / 2 ^ b / 2 ^ n = order_divided (v % 2 ^ 32) (s / 2 ^ b) (2 ^ n) (pow_pos n) (omega arith) in
@@ -134,6 +222,7 @@ divided_in (below l b) n word s v u h k = cond_both word (below 0 (b + n)) unkno
 pub lowered_in : (p : Relation) (n : ℕ) (word : Bool) (s v u : ℕ) → (word ≡ true → u % 2 ^ 32 + n ≤ v % 2 ^ 32) → IsRelated p s v → IsRelated (lowered p n word) s u
 lowered_in unknown n word s v u h k = tt
 lowered_in (ahead_by i) n word s v u h k = tt
+lowered_in (above m) n word s v u h k = tt
 lowered_in (below l b) n word s v u h k = cond_both word (below (l + n) b) unknown (λ p. IsRelated p s u)
     (λ e. let a = h e in let r : u % 2 ^ 32 + (l + n) ≤ s / 2 ^ b = omega arith in r) (λ _. tt)
 
@@ -144,6 +233,9 @@ small_below x y v small h = subst (λ n. x % 2 ^ 32 ≤ n / y) (sym (mod-eq_of_l
 
 pub and_less : (a n : ℕ) → a < 2 ^ 32 → bit_and a n % 2 ^ 32 + 0 ≤ a % 2 ^ 32
 and_less a n small = let p = and_le_l a n in omega arith
+
+pub and_less_too : (a n : ℕ) → n < 2 ^ 32 → bit_and a n % 2 ^ 32 + 0 ≤ n % 2 ^ 32
+and_less_too a n small = let p = and_le_r a n in omega arith
 
 pub shifted_less : (a n : ℕ) → a < 2 ^ 32 → a / 2 ^ n % 2 ^ 32 ≤ a % 2 ^ 32 / 2 ^ n
 shifted_less a n small = small_below (a / 2 ^ n) (2 ^ n) a small (let r : a / 2 ^ n ≤ a / 2 ^ n = omega arith in r)
@@ -172,3 +264,85 @@ pub remainder_less : (a b : ℕ) → b < 2 ^ 32 → 0 < b → (if b == 0 then a 
 remainder_less a b small some = cond_both (b == 0) a (a % b) (λ n. n % 2 ^ 32 + 1 ≤ b % 2 ^ 32)
     (λ e. absurd (let z : b ≡ 0 = eqb-true b 0 e in let bad : ⊥ = omega arith in bad))
     (λ _. let p : a % b < b = mod-lt a some in let q = mod-le (a % b) (2 ^ 32) in let e : b % 2 ^ 32 ≡ b = mod-eq_of_lt small in omega arith)
+
+-- ---- comparisons
+
+-- how two words compare
+abbrev pub IsOrdered : BranchOp → ℕ → ℕ → Type 0
+IsOrdered Beq a b = a ≡ b
+IsOrdered Bne a b = Unit {0}
+IsOrdered Blt a b = a < b
+IsOrdered Bge a b = b ≤ a
+IsOrdered Bltu a b = a < b
+IsOrdered Bgeu a b = b ≤ a
+
+less_signed : (a b : ℕ) → a < 2 ^ 31 → int_lt (signed a) (signed b) ≡ true → a < b
+less_signed a b low h = go (nat_lt b (2 ^ 31)) refl
+  where
+    go : (y : Bool) → nat_lt b (2 ^ 31) ≡ y → a < b
+    go true e =
+        let small : b < 2 ^ 31 = ltb-true b (2 ^ 31) e in
+        let k : int_lt (pos a) (pos b) ≡ true = subst (λ z. int_lt (pos a) z ≡ true) (low_one b small) (subst (λ z. int_lt z (signed b) ≡ true) (low_one a low) h) in
+        ltb-true a b k
+    go false e = let high : 2 ^ 31 ≤ b = ltb-false b (2 ^ 31) e in omega arith
+
+not_less_signed : (a b : ℕ) → b < 2 ^ 31 → int_lt (signed a) (signed b) ≡ false → b ≤ a
+not_less_signed a b low h = go (nat_lt a (2 ^ 31)) refl
+  where
+    go : (y : Bool) → nat_lt a (2 ^ 31) ≡ y → b ≤ a
+    go true e =
+        let small : a < 2 ^ 31 = ltb-true a (2 ^ 31) e in
+        let k : int_lt (pos a) (pos b) ≡ false = subst (λ z. int_lt (pos a) z ≡ false) (low_one b low) (subst (λ z. int_lt z (signed b) ≡ false) (low_one a small) h) in
+        ltb-false a b k
+    go false e = let high : 2 ^ 31 ≤ a = ltb-false a (2 ^ 31) e in omega arith
+
+low_some : (j : Option Arc) → is_low j ≡ true → is_some j ≡ true
+low_some None h = let bad : ⊥ = cc in absurd bad
+low_some (Some j) h = refl
+
+pub both_words : (op : BranchOp) (i j : Option Arc) → are_ordered op i j ≡ true → (is_some i ≡ true) × (is_some j ≡ true)
+both_words Beq i j h = and_parts (is_some i) (is_some j) h
+both_words Bne i j h = and_parts (is_some i) (is_some j) h
+both_words Blt i j h = let p = and_parts (is_low i) (is_some j) h in (low_some i p.0, p.1)
+both_words Bge i j h = let p = and_parts (is_some i) (is_low j) h in (p.0, low_some j p.1)
+both_words Bltu i j h = and_parts (is_some i) (is_some j) h
+both_words Bgeu i j h = and_parts (is_some i) (is_some j) h
+
+pub ordered_so : (op : BranchOp) (i j : Option Arc) (a b : ℕ) → IsHeld i a → IsHeld j b → are_ordered op i j ≡ true → is_taken op a b ≡ true → IsOrdered op a b
+ordered_so Beq i j a b x y are h = eqb-true a b h
+ordered_so Bne i j a b x y are h = tt
+ordered_so Blt i j a b x y are h = less_signed a b (held_low i a (and_parts (is_low i) (is_some j) are).0 x) h
+ordered_so Bge i j a b x y are h = not_less_signed a b (held_low j b (and_parts (is_some i) (is_low j) are).1 y) (not-true (int_lt (signed a) (signed b)) h)
+ordered_so Bltu i j a b x y are h = ltb-true a b h
+ordered_so Bgeu i j a b x y are h = ltb-false a b (not-true (nat_lt a b) h)
+
+lesser_in : (q : Relation) (n s a b : ℕ) → a < 2 ^ 32 → b < 2 ^ 32 → a + n ≤ b → IsRelated q s b → IsRelated (lesser q n) s a
+lesser_in unknown n s a b x y le h = tt
+lesser_in (ahead_by i) n s a b x y le h = tt
+lesser_in (below l c) n s a b x y le h = go (s / 2 ^ c) h
+  where
+    go : (z : ℕ) → b % 2 ^ 32 + l ≤ z → a % 2 ^ 32 + (l + n) ≤ z
+    go z k = omega arith
+lesser_in (above m) n s a b x y le h = tt
+
+greater_in : (q : Relation) (n s a b : ℕ) → a < 2 ^ 32 → b < 2 ^ 32 → b + n ≤ a → IsRelated q s b → IsRelated (greater q n) s a
+greater_in unknown n s a b x y le h = tt
+greater_in (ahead_by i) n s a b x y le h = tt
+greater_in (below l c) n s a b x y le h = tt
+greater_in (above m) n s a b x y le h = let r : s + (m + n) ≤ a % 2 ^ 32 = omega arith in r
+
+pub first_in : (op : BranchOp) (q : Relation) (s a b : ℕ) → a < 2 ^ 32 → b < 2 ^ 32 → IsOrdered op a b → IsRelated q s b → IsRelated (first_related op q) s a
+first_in Beq q s a b x y o h = subst (λ n. IsRelated q s n) (sym o) h
+first_in Bne q s a b x y o h = tt
+first_in Blt q s a b x y o h = lesser_in q 1 s a b x y (omega arith) h
+first_in Bge q s a b x y o h = greater_in q 0 s a b x y (omega arith) h
+first_in Bltu q s a b x y o h = lesser_in q 1 s a b x y (omega arith) h
+first_in Bgeu q s a b x y o h = greater_in q 0 s a b x y (omega arith) h
+
+pub second_in : (op : BranchOp) (q : Relation) (s a b : ℕ) → a < 2 ^ 32 → b < 2 ^ 32 → IsOrdered op a b → IsRelated q s a → IsRelated (second_related op q) s b
+second_in Beq q s a b x y o h = subst (λ n. IsRelated q s n) o h
+second_in Bne q s a b x y o h = tt
+second_in Blt q s a b x y o h = greater_in q 1 s b a y x (omega arith) h
+second_in Bge q s a b x y o h = lesser_in q 0 s b a y x (omega arith) h
+second_in Bltu q s a b x y o h = greater_in q 1 s b a y x (omega arith) h
+second_in Bgeu q s a b x y o h = lesser_in q 0 s b a y x (omega arith) h

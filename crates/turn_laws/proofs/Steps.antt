@@ -10,18 +10,18 @@ use Rattle.scale_base.specs.declared.instruction.Instr.TheVariants.{Lui, Auipc, 
 use Rattle.scale_base.specs.declared.stepping.Stepped.{Stepped}
 use Rattle.scale_base.specs.declared.stepping.StepEnd.TheVariants.{Went}
 use Rattle.scale_base.specs.Reading.{instr_of}
-use Rattle.scale_base.specs.Arith.{plus, unsigned, reg_result, imm_result}
+use Rattle.scale_base.specs.Arith.{plus, unsigned, reg_result, imm_result, is_taken}
 use Rattle.scale_base.specs.State.{Setting, State, reg, with_reg, word_at}
 use Rattle.scale_base.specs.Step.{Outcome, performs, step}
 use Rattle.bound_laws.specs.Registers.{keeps}
-use Rattle.bound_laws.specs.Values.{Arc, IsHeld, held, least_of, passed, IsRegister, Values}
-use Rattle.bound_laws.proofs.Laws.{held_of, step_of, steps_leave}
+use Rattle.bound_laws.specs.Values.{Arc, IsHeld, held, least_of, passed, Said, said, IsRegister, Values, AreBytes}
+use Rattle.bound_laws.proofs.Laws.{IsSo, held_of, so_behind, step_of, steps_leave}
 use Rattle.stack_laws.specs.Stacks.{Stacks, View, view_of, IsStoredFrom, IsMissed, AreTold}
 use Rattle.stack_laws.proofs.Laws.{gets, puts, misses}
-use Rattle.turn_laws.specs.Relating.{Relation, IsRelated, IsWeaker, made, made_too, moved_by_number, moved_by_arc, moved_back, divided, lowered, is_low, Place, TurnCertificate, row_of, IsMadeOver, IsLoadedOwn, IsRowOver, IsWordOver, IsPlaceOver, IsEvident, stands_in}
+use Rattle.turn_laws.specs.Relating.{Relation, IsRelated, IsWeaker, made, made_too, moved_by_number, moved_by_arc, moved_back, multiplied, divided, lowered, is_low, are_ordered, first_related, second_related, Place, TurnCertificate, row_of, IsMadeOver, IsLoadedOwn, IsRelatedBy, IsRowOn, IsRowOver, IsWordOver, IsPlaceOver, IsEvident, stands_in}
 use Rattle.turn_laws.specs.Relating.Relation.{unknown}
 use Rattle.turn_laws.specs.Relating.Place.{in_register, in_word}
-use Rattle.turn_laws.proofs.Relations.{weaker_in, same_in, number_in, arc_in, sum_both_in, back_in, divided_in, lowered_in, held_word, held_low, held_more, and_less, shifted_less, signed_shifted, product_less, product_less_too, quotient_less, remainder_less}
+use Rattle.turn_laws.proofs.Relations.{weaker_in, same_in, number_in, arc_in, sum_both_in, back_in, product_in, divided_in, lowered_in, both_words, ordered_so, first_in, second_in, held_word, held_low, held_more, and_less, and_less_too, shifted_less, signed_shifted, product_less, product_less_too, quotient_less, remainder_less}
 use Rattle.turn_laws.proofs.Facts.{Facts}
 
 -- what is put into a register
@@ -68,7 +68,8 @@ module _ (env : Setting) (keyless : env.layout.keyed ≡ None) (v : Values) (w :
     into p rd value h k = subst (λ n. IsRelated p start n) (sym (written rd value h)) k
 
     by : (j : Instr) → keeps r j ≡ false → Has (made j (row_of c s.pc) (v.at s.pc)) (performs env s i j)
-    by (Imm Addi rd rs1 imm) h = into (moved_by_number (row_of c s.pc rs1) (unsigned imm)) rd (imm_result Addi (reg s.regs rs1) imm) h (number_in (row_of c s.pc rs1) (unsigned imm) start (reg s.regs rs1) (related rs1))
+    by (Imm Addi rd rs1 imm) h = into (moved_by_number (row_of c s.pc rs1) (held (v.at s.pc) rs1) (unsigned imm)) rd (imm_result Addi (reg s.regs rs1) imm) h
+        (number_in (row_of c s.pc rs1) (held (v.at s.pc) rs1) (unsigned imm) start (reg s.regs rs1) (at_of rs1) (related rs1))
     by (Imm Andi rd rs1 imm) h = into (made (Imm Andi rd rs1 imm) (row_of c s.pc) (v.at s.pc)) rd (imm_result Andi (reg s.regs rs1) imm) h
         (lowered_in (row_of c s.pc rs1) 0 (is_some (held (v.at s.pc) rs1)) start (reg s.regs rs1) (imm_result Andi (reg s.regs rs1) imm)
         (λ e. and_less (reg s.regs rs1) (unsigned imm) (held_word (held (v.at s.pc) rs1) (reg s.regs rs1) e (at_of rs1))) (related rs1))
@@ -82,11 +83,12 @@ module _ (env : Setting) (keyless : env.layout.keyed ≡ None) (v : Values) (w :
     by (Imm Sltiu rd rs1 imm) h = tt
     by (Imm Xori rd rs1 imm) h = tt
     by (Imm Ori rd rs1 imm) h = tt
-    by (Imm Slli rd rs1 imm) h = tt
-    by (Reg Add rd rs1 rs2) h = into (moved_by_arc (row_of c s.pc rs1) (held (v.at s.pc) rs2)) rd (plus (reg s.regs rs1) (reg s.regs rs2)) h
-        (arc_in (row_of c s.pc rs1) (held (v.at s.pc) rs2) start (reg s.regs rs1) (reg s.regs rs2) (at_of rs2) (related rs1))
-    by (Reg Sub rd rs1 rs2) h = into (moved_back (row_of c s.pc rs1) (held (v.at s.pc) rs2)) rd (reg_result Sub (reg s.regs rs1) (reg s.regs rs2)) h
-        (back_in (row_of c s.pc rs1) (held (v.at s.pc) rs2) start (reg s.regs rs1) (reg s.regs rs2) (at_of rs2) (related rs1))
+    by (Imm Slli rd rs1 imm) h = into (multiplied (row_of c s.pc rs1) (held (v.at s.pc) rs1) (unsigned imm % 32)) rd (imm_result Slli (reg s.regs rs1) imm) h
+        (product_in (row_of c s.pc rs1) (held (v.at s.pc) rs1) (unsigned imm % 32) start (reg s.regs rs1) (at_of rs1) (related rs1))
+    by (Reg Add rd rs1 rs2) h = into (moved_by_arc (row_of c s.pc rs1) (held (v.at s.pc) rs1) (held (v.at s.pc) rs2)) rd (plus (reg s.regs rs1) (reg s.regs rs2)) h
+        (arc_in (row_of c s.pc rs1) (held (v.at s.pc) rs1) (held (v.at s.pc) rs2) start (reg s.regs rs1) (reg s.regs rs2) (at_of rs1) (at_of rs2) (related rs1))
+    by (Reg Sub rd rs1 rs2) h = into (moved_back (row_of c s.pc rs1) (held (v.at s.pc) rs1) (held (v.at s.pc) rs2)) rd (reg_result Sub (reg s.regs rs1) (reg s.regs rs2)) h
+        (back_in (row_of c s.pc rs1) (held (v.at s.pc) rs1) (held (v.at s.pc) rs2) start (reg s.regs rs1) (reg s.regs rs2) (at_of rs1) (at_of rs2) (related rs1))
     by (Reg Mulhu rd rs1 rs2) h =
         let a : ℕ = reg s.regs rs1 in
         let b : ℕ = reg s.regs rs2 in
@@ -118,7 +120,9 @@ module _ (env : Setting) (keyless : env.layout.keyed ≡ None) (v : Values) (w :
     by (Reg Srl rd rs1 rs2) h = tt
     by (Reg Sra rd rs1 rs2) h = tt
     by (Reg Or rd rs1 rs2) h = tt
-    by (Reg And rd rs1 rs2) h = tt
+    by (Reg And rd rs1 rs2) h = into (made (Reg And rd rs1 rs2) (row_of c s.pc) (v.at s.pc)) rd (reg_result And (reg s.regs rs1) (reg s.regs rs2)) h
+        (lowered_in (row_of c s.pc rs1) 0 (is_some (held (v.at s.pc) rs1)) start (reg s.regs rs1) (reg_result And (reg s.regs rs1) (reg s.regs rs2))
+        (λ e. and_less (reg s.regs rs1) (reg s.regs rs2) (held_word (held (v.at s.pc) rs1) (reg s.regs rs1) e (at_of rs1))) (related rs1))
     by (Reg Mul rd rs1 rs2) h = tt
     by (Reg Mulh rd rs1 rs2) h = tt
     by (Reg Mulhsu rd rs1 rs2) h = tt
@@ -136,8 +140,8 @@ module _ (env : Setting) (keyless : env.layout.keyed ≡ None) (v : Values) (w :
     by Ebreak h = tt
 
     by_too : (j : Instr) → keeps r j ≡ false → Has (made_too j (row_of c s.pc) (v.at s.pc)) (performs env s i j)
-    by_too (Reg Add rd rs1 rs2) h = into (moved_by_arc (row_of c s.pc rs2) (held (v.at s.pc) rs1)) rd (plus (reg s.regs rs1) (reg s.regs rs2)) h
-        (sum_both_in (row_of c s.pc rs2) (held (v.at s.pc) rs1) start (reg s.regs rs2) (reg s.regs rs1) (at_of rs1) (related rs2))
+    by_too (Reg Add rd rs1 rs2) h = into (moved_by_arc (row_of c s.pc rs2) (held (v.at s.pc) rs2) (held (v.at s.pc) rs1)) rd (plus (reg s.regs rs1) (reg s.regs rs2)) h
+        (sum_both_in (row_of c s.pc rs2) (held (v.at s.pc) rs2) (held (v.at s.pc) rs1) start (reg s.regs rs2) (reg s.regs rs1) (at_of rs2) (at_of rs1) (related rs2))
     by_too (Reg Mulhu rd rs1 rs2) h =
         let a : ℕ = reg s.regs rs1 in
         let b : ℕ = reg s.regs rs2 in
@@ -163,7 +167,9 @@ module _ (env : Setting) (keyless : env.layout.keyed ≡ None) (v : Values) (w :
     by_too (Reg Srl rd rs1 rs2) h = tt
     by_too (Reg Sra rd rs1 rs2) h = tt
     by_too (Reg Or rd rs1 rs2) h = tt
-    by_too (Reg And rd rs1 rs2) h = tt
+    by_too (Reg And rd rs1 rs2) h = into (made_too (Reg And rd rs1 rs2) (row_of c s.pc) (v.at s.pc)) rd (reg_result And (reg s.regs rs1) (reg s.regs rs2)) h
+        (lowered_in (row_of c s.pc rs2) 0 (is_some (held (v.at s.pc) rs2)) start (reg s.regs rs2) (reg_result And (reg s.regs rs1) (reg s.regs rs2))
+        (λ e. and_less_too (reg s.regs rs1) (reg s.regs rs2) (held_word (held (v.at s.pc) rs2) (reg s.regs rs2) e (at_of rs2))) (related rs2))
     by_too (Reg Mul rd rs1 rs2) h = tt
     by_too (Reg Mulh rd rs1 rs2) h = tt
     by_too (Reg Mulhsu rd rs1 rs2) h = tt
@@ -205,6 +211,35 @@ module _ (env : Setting) (keyless : env.layout.keyed ≡ None) (v : Values) (w :
         (λ (q : IsMadeOver v c s.pc i r b). made_over b q)
         (λ (more : IsLoadedOwn w c s.pc i r b ⊎ IsWeaker b unknown). ⊎_elim (λ (q : IsLoadedOwn w c s.pc i r b). loaded_over b q)
         (λ (q : IsWeaker b unknown). weaker_in b unknown start (reg after.regs r) tt q) more) rest) over
+
+    -- what a comparison says
+    compared : (q : Said) (b : Relation) → is_taken q.op (reg s.regs q.first) (reg s.regs q.second) ≡ true → keeps r i ≡ true →
+        are_ordered q.op (held (v.at s.pc) q.first) (held (v.at s.pc) q.second) ≡ true →
+        ((r ≡ q.first) × IsWeaker b (first_related q.op (row_of c s.pc q.second))) ⊎ ((r ≡ q.second) × IsWeaker b (second_related q.op (row_of c s.pc q.first))) →
+        IsRelated b start (reg after.regs r)
+    compared q b so keep are which =
+        let words = both_words q.op (held (v.at s.pc) q.first) (held (v.at s.pc) q.second) are in
+        let x : reg s.regs q.first < 2 ^ 32 = held_word (held (v.at s.pc) q.first) (reg s.regs q.first) words.0 (at_of q.first) in
+        let y : reg s.regs q.second < 2 ^ 32 = held_word (held (v.at s.pc) q.second) (reg s.regs q.second) words.1 (at_of q.second) in
+        let order = ordered_so q.op (held (v.at s.pc) q.first) (held (v.at s.pc) q.second) (reg s.regs q.first) (reg s.regs q.second) (at_of q.first) (at_of q.second) are so in
+        subst (λ n. IsRelated b start n) (sym (steps_leave env s i r here keep)) (⊎_elim
+        (λ (k : (r ≡ q.first) × IsWeaker b (first_related q.op (row_of c s.pc q.second))). subst (λ n. IsRelated b start (reg s.regs n)) (sym k.0)
+        (weaker_in b (first_related q.op (row_of c s.pc q.second)) start (reg s.regs q.first)
+        (first_in q.op (row_of c s.pc q.second) start (reg s.regs q.first) (reg s.regs q.second) x y order (related q.second)) k.1))
+        (λ (k : (r ≡ q.second) × IsWeaker b (second_related q.op (row_of c s.pc q.first))). subst (λ n. IsRelated b start (reg s.regs n)) (sym k.0)
+        (weaker_in b (second_related q.op (row_of c s.pc q.first)) start (reg s.regs q.second)
+        (second_in q.op (row_of c s.pc q.first) start (reg s.regs q.first) (reg s.regs q.second) x y order (related q.first)) k.1)) which)
+
+    pub row_on : (memory : AreBytes s.bytes) (to : ℕ) → after.pc ≡ to → (b : Relation) → IsRowOn v w c s.pc i to r b → IsRelated b start (reg after.regs r)
+    row_on memory to same b on = ⊎_elim (λ (q : IsRowOver v w c s.pc i r b). row_holds b q)
+        (λ (q : IsRelatedBy v c s.pc i to r b). compared q.0 b (go q.0 (subst (λ n. said i s.pc n ≡ Some q.0) (sym same) q.1)) q.2 q.3 q.4) on
+      where
+        so_of : (o : Option Said) (q : Said) → o ≡ Some q → IsSo env keyless s (v.at s.pc) zero_is size told.registers.each memory o → is_taken q.op (reg s.regs q.first) (reg s.regs q.second) ≡ true
+        so_of (Some p) q e h = let f : p ≡ q = cc in subst (λ (k : Said). is_taken k.op (reg s.regs k.first) (reg s.regs k.second) ≡ true) f h
+        so_of None q e h = let bad : ⊥ = cc in absurd bad
+
+        go : (q : Said) → said i s.pc after.pc ≡ Some q → is_taken q.op (reg s.regs q.first) (reg s.regs q.second) ≡ true
+        go q e = so_of (said i s.pc after.pc) q e (so_behind env keyless s (v.at s.pc) zero_is size told.registers.each memory i x here went)
 
   pub word_holds : (k : ℕ) → c.place ≡ in_word k → (b : Relation) → IsWordOver v w c s.pc i k b → IsRelated b start (then.words k)
   word_holds k same b over = ⊎_elim

@@ -1,9 +1,11 @@
 -- How often a loop turns, by what each turn makes of a register or a word of the stack: relations of values to the one number that stood
 -- there when the header was last come to, which the code has to confirm edge by edge. Ranking functions: Floyd, Assigning meanings to
 -- programs, 1967.
-use Rattle.std.specs.Prelude.{◌≡◌, ◌≢◌, ℕ, ◌+◌, ◌/◌, ◌%◌, ◌^◌, ◌<◌, ◌≤◌, ◌⊎◌, ◌==◌, ◌&&◌, nat_lt, Bool, true, false, Option, Some, None, is_some, if◌then◌else◌}
-use Rattle.scale_base.specs.declared.instruction.ImmOp.TheVariants.{Addi, Andi, Srli, Srai}
-use Rattle.scale_base.specs.declared.instruction.RegOp.TheVariants.{Add, Sub, Mulhu, Divu, Remu}
+use Rattle.std.specs.Prelude.{◌≡◌, ◌≢◌, ℕ, ◌+◌, ◌-◌, ◌*◌, ◌/◌, ◌%◌, ◌^◌, ◌<◌, ◌≤◌, ◌⊎◌, ◌==◌, ◌&&◌, not, nat_lt, Bool, true, false, Option, Some, None, is_some, if◌then◌else◌}
+use Rattle.scale_base.specs.declared.instruction.BranchOp.{BranchOp}
+use Rattle.scale_base.specs.declared.instruction.BranchOp.TheVariants.{Beq, Bne, Blt, Bge, Bltu, Bgeu}
+use Rattle.scale_base.specs.declared.instruction.ImmOp.TheVariants.{Addi, Andi, Slli, Srli, Srai}
+use Rattle.scale_base.specs.declared.instruction.RegOp.TheVariants.{Add, Sub, And, Mulhu, Divu, Remu}
 use Rattle.scale_base.specs.declared.instruction.Instr.{Instr}
 use Rattle.scale_base.specs.declared.instruction.Instr.TheVariants.{Imm, Reg}
 use Rattle.scale_base.specs.Arith.{unsigned}
@@ -12,23 +14,26 @@ use Rattle.cost_theory.specs.Graph.{Graph, Loops}
 use Rattle.code_text.specs.Text.{Text, instr_at}
 use Rattle.bound_laws.specs.Registers.{keeps}
 use Rattle.bound_laws.specs.Turning.{Leads, Calls}
-use Rattle.bound_laws.specs.Values.{Arc, arc, strided, Covers, IsHeld, held, least_of, top_of, sum_of, sum_with, difference_of, scaled, passed, IsRegister, Values, Steps}
+use Rattle.bound_laws.specs.Values.{Arc, arc, strided, Covers, IsHeld, held, least_of, top_of, sum_of, sum_with, difference_of, scaled, passed, Said, said, IsImpossible, IsRegister, Values, Steps}
 use Rattle.stack_laws.specs.Counting as counting
 use Rattle.stack_laws.specs.Stacks.{Stacks, View, IsLoadedTo, IsStoredFrom, IsMissed, IsRestored, IsSafe}
 
 -- ---- relations
 
 -- What is known of a value by the number that stood in the counted place when the header was last come to: nothing; that it is more by a
--- number of an interval, modulo 2^32; or that it, and so much more, is at most that number divided by a power of 2.
+-- number of an interval, modulo 2^32; that it, and so much more, is at most that number divided by a power of 2; or that it is at least that
+-- number and so much more.
 pub data Relation : Type 0 where
   unknown : Relation
   ahead_by : Option Arc → Relation
   below : (less shift : ℕ) → Relation
+  above : (more : ℕ) → Relation
 
 abbrev pub IsRelated : Relation → (start value : ℕ) → Type 0
 IsRelated unknown start value = Unit {0}
 IsRelated (ahead_by i) start value = (d : ℕ) × IsHeld i d × (value % 2 ^ 32 ≡ (start + d) % 2 ^ 32)
 IsRelated (below less shift) start value = value % 2 ^ 32 + less ≤ start / 2 ^ shift
+IsRelated (above more) start value = start + more ≤ value % 2 ^ 32
 
 -- this one says no more than the other
 abbrev pub IsWeaker : Relation → Relation → Type 0
@@ -36,40 +41,68 @@ IsWeaker unknown other = Unit {0}
 IsWeaker (ahead_by i) (ahead_by j) = Covers i j
 IsWeaker (ahead_by i) unknown = ⊥
 IsWeaker (ahead_by i) (below less shift) = ⊥
+IsWeaker (ahead_by i) (above more) = ⊥
 IsWeaker (below less shift) (below more further) = (less ≤ more) × (shift ≤ further)
 IsWeaker (below less shift) unknown = ⊥
 IsWeaker (below less shift) (ahead_by j) = ⊥
+IsWeaker (below less shift) (above more) = ⊥
+IsWeaker (above more) (above most) = more ≤ most
+IsWeaker (above more) unknown = ⊥
+IsWeaker (above more) (ahead_by j) = ⊥
+IsWeaker (above more) (below less shift) = ⊥
 
 -- ---- what instructions make of them
 
--- a sum with a number
-abbrev pub moved_by_number : Relation → ℕ → Relation
-moved_by_number unknown n = unknown
-moved_by_number (ahead_by i) n = ahead_by (sum_with i n)
-moved_by_number (below less shift) n = if n == 0 then below less shift else unknown
+-- A sum with a number, of what is in an interval: where the sum is less than the other number, that is 2^32 less something that is taken
+-- away.
+abbrev pub moved_by_number : Relation → Option Arc → ℕ → Relation
+moved_by_number unknown i n = unknown
+moved_by_number (ahead_by k) i n = ahead_by (sum_with k n)
+moved_by_number (below less shift) i n =
+    if n == 0 then below less shift
+    else if nat_lt n (2 ^ 32) && nat_lt (2 ^ 32 - 1) (least_of i + n) then below (less + (2 ^ 32 - n)) shift
+    else unknown
+moved_by_number (above more) i n =
+    if nat_lt (top_of i + n) (2 ^ 32) then above (more + n)
+    else if nat_lt n (2 ^ 32) && nat_lt (2 ^ 32 - 1) (more + n) then above (more + n - 2 ^ 32)
+    else unknown
 
 -- a sum with a value of an interval
-abbrev pub moved_by_arc : Relation → Option Arc → Relation
-moved_by_arc unknown j = unknown
-moved_by_arc (ahead_by i) j = ahead_by (sum_of i j)
-moved_by_arc (below less shift) j = if top_of j == 0 then below less shift else unknown
+abbrev pub moved_by_arc : Relation → (i j : Option Arc) → Relation
+moved_by_arc unknown i j = unknown
+moved_by_arc (ahead_by k) i j = ahead_by (sum_of k j)
+moved_by_arc (below less shift) i j = if top_of j == 0 then below less shift else unknown
+moved_by_arc (above more) i j = if nat_lt (top_of i + top_of j) (2 ^ 32) then above (more + least_of j) else unknown
 
-abbrev pub moved_back : Relation → Option Arc → Relation
-moved_back unknown j = unknown
-moved_back (ahead_by i) j = ahead_by (difference_of i j)
-moved_back (below less shift) j = unknown
+-- a difference
+abbrev pub moved_back : Relation → (i j : Option Arc) → Relation
+moved_back unknown i j = unknown
+moved_back (ahead_by k) i j = ahead_by (difference_of k j)
+moved_back (below less shift) i j =
+    if (is_some i && is_some j) && not (nat_lt (least_of i) (top_of j)) then below (less + least_of j) shift else unknown
+moved_back (above more) i j = unknown
+
+-- a product with a power of 2
+abbrev pub multiplied : Relation → Option Arc → ℕ → Relation
+multiplied unknown i n = unknown
+multiplied (ahead_by k) i n = unknown
+multiplied (below less shift) i n = unknown
+multiplied (above more) i n =
+    if is_some i && nat_lt (top_of i * 2 ^ n) (2 ^ 32) then above (more + least_of i * (2 ^ n - 1)) else unknown
 
 -- a word divided by a power of 2, or by a number that is that at least
 abbrev pub divided : Relation → ℕ → Bool → Relation
 divided unknown n word = unknown
 divided (ahead_by i) n word = unknown
 divided (below less shift) n word = if word then below 0 (shift + n) else unknown
+divided (above more) n word = unknown
 
 -- what is at most a word, and is less than that by so much
 abbrev pub lowered : Relation → ℕ → Bool → Relation
 lowered unknown n word = unknown
 lowered (ahead_by i) n word = unknown
 lowered (below less shift) n word = if word then below (less + n) shift else unknown
+lowered (above more) n word = unknown
 
 -- the interval has words below 2^31 alone, which are no negative numbers
 abbrev pub is_low : Option Arc → Bool
@@ -78,12 +111,14 @@ is_low (Some i) = nat_lt (top_of (Some i)) (2 ^ 31)
 
 -- what an instruction writes, by the relations and the intervals of registers before it
 abbrev pub made : Instr → (ℕ → Relation) → (ℕ → Option Arc) → Relation
-made (Imm Addi rd rs1 imm) row at = moved_by_number (row rs1) (unsigned imm)
+made (Imm Addi rd rs1 imm) row at = moved_by_number (row rs1) (held at rs1) (unsigned imm)
 made (Imm Andi rd rs1 imm) row at = lowered (row rs1) 0 (is_some (held at rs1))
+made (Imm Slli rd rs1 imm) row at = multiplied (row rs1) (held at rs1) (unsigned imm % 32)
 made (Imm Srli rd rs1 imm) row at = divided (row rs1) (unsigned imm % 32) (is_some (held at rs1))
 made (Imm Srai rd rs1 imm) row at = divided (row rs1) (unsigned imm % 32) (is_low (held at rs1))
-made (Reg Add rd rs1 rs2) row at = moved_by_arc (row rs1) (held at rs2)
-made (Reg Sub rd rs1 rs2) row at = moved_back (row rs1) (held at rs2)
+made (Reg Add rd rs1 rs2) row at = moved_by_arc (row rs1) (held at rs1) (held at rs2)
+made (Reg Sub rd rs1 rs2) row at = moved_back (row rs1) (held at rs1) (held at rs2)
+made (Reg And rd rs1 rs2) row at = lowered (row rs1) 0 (is_some (held at rs1))
 made (Reg Mulhu rd rs1 rs2) row at = divided (row rs1) 0 (is_some (held at rs1) && is_some (held at rs2))
 made (Reg Divu rd rs1 rs2) row at = divided (row rs1) 1 (is_some (held at rs1) && nat_lt 1 (least_of (held at rs2)))
 made (Reg Remu rd rs1 rs2) row at = lowered (row rs2) 1 (is_some (held at rs2) && nat_lt 0 (least_of (held at rs2)))
@@ -91,9 +126,50 @@ made i row at = unknown
 
 -- the same of sums and products whose second register has a relation
 abbrev pub made_too : Instr → (ℕ → Relation) → (ℕ → Option Arc) → Relation
-made_too (Reg Add rd rs1 rs2) row at = moved_by_arc (row rs2) (held at rs1)
+made_too (Reg Add rd rs1 rs2) row at = moved_by_arc (row rs2) (held at rs2) (held at rs1)
+made_too (Reg And rd rs1 rs2) row at = lowered (row rs2) 0 (is_some (held at rs2))
 made_too (Reg Mulhu rd rs1 rs2) row at = divided (row rs2) 0 (is_some (held at rs1) && is_some (held at rs2))
 made_too i row at = unknown
+
+-- ---- what a branch says of the registers that it compares
+
+-- of a number that is greater than one with the relation, by so much at least
+abbrev pub greater : Relation → ℕ → Relation
+greater unknown n = unknown
+greater (ahead_by i) n = unknown
+greater (below less shift) n = unknown
+greater (above more) n = above (more + n)
+
+-- and of one that is less
+abbrev pub lesser : Relation → ℕ → Relation
+lesser unknown n = unknown
+lesser (ahead_by i) n = unknown
+lesser (below less shift) n = below (less + n) shift
+lesser (above more) n = unknown
+
+-- The numbers compare as words: both are words, and where they compare as signed numbers, the one that is less is none below 0.
+abbrev pub are_ordered : BranchOp → (i j : Option Arc) → Bool
+are_ordered Blt i j = is_low i && is_some j
+are_ordered Bge i j = is_some i && is_low j
+are_ordered op i j = is_some i && is_some j
+
+-- of the first register, by the relation of the second one, where the comparison holds
+abbrev pub first_related : BranchOp → Relation → Relation
+first_related Beq q = q
+first_related Bne q = unknown
+first_related Blt q = lesser q 1
+first_related Bge q = greater q 0
+first_related Bltu q = lesser q 1
+first_related Bgeu q = greater q 0
+
+-- and of the second register, by that of the first one
+abbrev pub second_related : BranchOp → Relation → Relation
+second_related Beq q = q
+second_related Bne q = unknown
+second_related Blt q = greater q 1
+second_related Bge q = lesser q 0
+second_related Bltu q = greater q 1
+second_related Bgeu q = lesser q 0
 
 -- ---- certificates
 
@@ -106,11 +182,12 @@ abbrev pub stands_in : Place → View → ℕ
 stands_in (in_register r) x = reg x.regs r
 stands_in (in_word k) x = x.words k
 
--- How turns are counted: each one moves a sum of a multiple of the number and of a shift on, or takes something away from the number, or
--- halves it so many times.
+-- How turns are counted: each one moves a sum of a multiple of the number and of a shift on, takes something away from the number, halves
+-- it so many times, or adds something to it, from a number on.
 pub data Kind : Type 0 where
   moves : (factor shift : ℕ) → Kind
   lowers : Kind
+  raises : (from : ℕ) → Kind
   halves : (bits : ℕ) → Kind
 
 -- Why a loop can't turn often: so many times the least is at most the width.
@@ -145,6 +222,20 @@ IsLoadedOwn w c a i r b = (k : ℕ) × (c.place ≡ in_word k) × IsLoadedTo w a
 abbrev pub IsRowOver : Values → Stacks → TurnCertificate → ℕ → Instr → ℕ → Relation → Type 0
 IsRowOver v w c a i r b = ((keeps r i ≡ true) × IsWeaker b (c.row a r)) ⊎ IsMadeOver v c a i r b ⊎ IsLoadedOwn w c a i r b ⊎
     IsWeaker b unknown
+
+-- on the way to b: or by what a branch says of it
+abbrev pub IsRelatedBy : Values → TurnCertificate → ℕ → Instr → (b r : ℕ) → Relation → Type 0
+IsRelatedBy v c a i b r q = (s : Said) × (said i a b ≡ Some s) × (keeps r i ≡ true) ×
+    (are_ordered s.op (held (v.at a) s.first) (held (v.at a) s.second) ≡ true) ×
+    (((r ≡ s.first) × IsWeaker q (first_related s.op (row_of c a s.second))) ⊎
+    ((r ≡ s.second) × IsWeaker q (second_related s.op (row_of c a s.first))))
+
+abbrev pub IsRowOn : Values → Stacks → TurnCertificate → ℕ → Instr → (b r : ℕ) → Relation → Type 0
+IsRowOn v w c a i b r q = IsRowOver v w c a i r q ⊎ IsRelatedBy v c a i b r q
+
+-- no comparison says that no state comes this way
+abbrev pub IsPossible : Values → ℕ → Instr → ℕ → Type 0
+IsPossible v a i b = IsImpossible (said i a b) (v.at a) → ⊥
 
 -- that of a word, which is left or stored
 abbrev pub IsWordOver : Values → Stacks → TurnCertificate → ℕ → Instr → ℕ → Relation → Type 0
@@ -182,12 +273,19 @@ IsTurned c (moves factor shift) unknown = ⊥
 IsTurned c (moves factor shift) (ahead_by i) = (most : ℕ) × Covers (Some (arc c.least most)) (scaled factor i) ×
     (c.least + most + c.width < 2 ^ 32)
 IsTurned c (moves factor shift) (below less by) = ⊥
+IsTurned c (moves factor shift) (above more) = ⊥
 IsTurned c lowers unknown = ⊥
 IsTurned c lowers (ahead_by i) = ⊥
 IsTurned c lowers (below less by) = c.least ≤ less
+IsTurned c lowers (above more) = ⊥
+IsTurned c (raises from) unknown = ⊥
+IsTurned c (raises from) (ahead_by i) = ⊥
+IsTurned c (raises from) (below less by) = ⊥
+IsTurned c (raises from) (above more) = c.least ≤ more
 IsTurned c (halves bits) unknown = ⊥
 IsTurned c (halves bits) (ahead_by i) = ⊥
 IsTurned c (halves bits) (below less by) = c.least ≤ by
+IsTurned c (halves bits) (above more) = ⊥
 
 -- whether turns are counted by halving, which asks for a number that isn't 0
 abbrev pub is_halving : Kind → Bool
@@ -211,6 +309,7 @@ IsTurnBack t v w c a to = ((r : Relation) × IsPlaceBack t v w c a to c.place r 
 abbrev pub IsStarted : TurnCertificate → Kind → Option Arc → Type 0
 IsStarted c (moves factor shift) i = Covers (Some (arc 0 c.width)) (sum_with (scaled factor i) shift)
 IsStarted c lowers i = top_of i ≤ c.width
+IsStarted c (raises from) i = (from ≤ least_of i) × (top_of i ≤ from + c.width)
 IsStarted c (halves bits) i = (top_of i < 2 ^ bits) × (bits + c.least ≤ c.width + 1)
 
 abbrev pub place_arc : Values → Stacks → ℕ → Place → Option Arc
@@ -222,10 +321,12 @@ abbrev pub IsBegun : Relation → Type 0
 IsBegun unknown = Unit {0}
 IsBegun (ahead_by i) = Covers i (Some (strided 0 0 0))
 IsBegun (below less shift) = (less ≡ 0) × (shift ≡ 0)
+IsBegun (above more) = more ≡ 0
 
 -- What the code has to say of a certificate for the loop with this header and this extent. Each clause is about one edge of the graph, or
 -- about two of one call.
-pub record IsTurnCertificate (t : Text) (g : Graph) (v : Values) (w : Stacks) (header : ℕ) (extent : ℕ → Bool) (c : TurnCertificate) : Type 0 where
+pub record IsTurnCertificate (t : Text) (g : Graph) (v : Values) (w : Stacks) (header : ℕ) (extent : ℕ → Bool) (c : TurnCertificate)
+    : Type 0 where
   -- the header is in the body, and begins it: nothing is known there but of what is counted in
   pub first : c.body header ≡ true
   pub rows : (r : ℕ) → IsRegister r → (c.row header r ≡ unknown) ⊎ ((c.place ≡ in_register r) × IsBegun (c.row header r))
@@ -238,13 +339,13 @@ pub record IsTurnCertificate (t : Text) (g : Graph) (v : Values) (w : Stacks) (h
   pub entry : c.body t.entry ≡ true → t.entry ≡ header
   -- what is counted as a turn comes from the body
   pub counts : (a : ℕ) → Leads g a header → v.live a ≡ true → extent a ≡ true → c.body a ≡ true
-  -- within the body each instruction keeps the relations
+  -- within the body each instruction keeps the relations, where a state may come
   pub along : (a b r : ℕ) (i : Instr) → Steps g a b → v.live a ≡ true → c.body a ≡ true → c.body b ≡ true → b ≢ header →
-      instr_at t a ≡ Some i → IsRegister r → IsRowOver v w c a i r (c.row b r)
+      instr_at t a ≡ Some i → IsPossible v a i b → IsRegister r → IsRowOn v w c a i b r (c.row b r)
   pub along_own : (a b : ℕ) (i : Instr) → Steps g a b → v.live a ≡ true → c.body a ≡ true → c.body b ≡ true → b ≢ header →
-      instr_at t a ≡ Some i → IsOwnOver v w c a i c.place (c.own b)
+      instr_at t a ≡ Some i → IsPossible v a i b → IsOwnOver v w c a i c.place (c.own b)
   pub along_used : (a b : ℕ) (i : Instr) → Steps g a b → v.live a ≡ true → c.body a ≡ true → c.body b ≡ true → b ≢ header →
-      instr_at t a ≡ Some i → c.used b ≡ true → IsUsed v c a i b
+      instr_at t a ≡ Some i → IsPossible v a i b → c.used b ≡ true → IsUsed v c a i b
   -- and so does each call
   pub back : (a to b r : ℕ) → Calls g a to → Leads g a b → v.live a ≡ true → c.body a ≡ true → c.body b ≡ true → b ≢ header →
       IsRegister r → IsRowBack t v w c a to r (c.row b r)
@@ -254,7 +355,7 @@ pub record IsTurnCertificate (t : Text) (g : Graph) (v : Values) (w : Stacks) (h
       c.used b ≡ true → c.used a ≡ true
   -- each turn does what the kind says
   pub turns : (a : ℕ) (i : Instr) → Steps g a header → v.live a ≡ true → c.body a ≡ true → instr_at t a ≡ Some i →
-      IsTurnOver v w c a i header
+      IsPossible v a i header → IsTurnOver v w c a i header
   pub turns_back : (a to : ℕ) → Calls g a to → Leads g a header → v.live a ≡ true → c.body a ≡ true → IsTurnBack t v w c a to
   -- calls from the body go to quiet code
   pub calls : (a b : ℕ) → Calls g a b → v.live a ≡ true → c.body a ≡ true → c.quiet b ≡ true

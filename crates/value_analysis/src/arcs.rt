@@ -81,6 +81,16 @@ pub fn shorter(a: Option<Arc>, b: Option<Arc>) -> Option<Arc> {
     }
 }
 
+/// The one number of an interval.
+pub fn only(arc: Option<Arc>) -> Option<u32> {
+    let i = kept(arc)?;
+    if i.more() == 0 {
+        u32::try_from(i.low()).ok()
+    } else {
+        None
+    }
+}
+
 // How many numbers an interval has behind its first one.
 fn members(a: Arc) -> u64 {
     a.more() / a.stride().max(1)

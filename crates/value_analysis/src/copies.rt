@@ -5,9 +5,9 @@ ghost use Rattle.std.specs.Prelude.{◌<◌};
 use crate::forms::{Forms, difference};
 use crate::program::Program;
 use crate::ways::WayKind;
-use scale_base::{ImmOp, Instr, NoMemory};
+use scale_base::{ImmOp, Instr, NoMemory, RegOp};
 use std::alloc::Global;
-use wrapped_intervals::{effect, keeps};
+use wrapped_intervals::{Measure, effect, keeps};
 
 /// How many nodes behind a copy are looked at.
 const MOST_NODES: usize = 48;
@@ -159,6 +159,47 @@ fn add_copy(
     }
     behind.want(forms, copy.to, copy.from, behind.tested_from)?;
     behind.want(forms, copy.from, copy.to, behind.tested_to)
+}
+
+// The difference of two registers that an instruction writes.
+fn difference_written(i: Instr) -> Option<Measure> {
+    match i {
+        Instr::Reg {
+            op: RegOp::Sub,
+            rd: _,
+            rs1,
+            rs2,
+        } => {
+            if rs1 > 1 && rs2 > 1 && rs1 != rs2 {
+                Some(difference(rs1, rs2))
+            } else {
+                None
+            }
+        }
+        _ => None,
+    }
+}
+
+// Looks for the form of a difference that the instruction at a node writes, from there back.
+fn add_difference(forms: &mut Forms, program: &Program, k: usize) -> Result<(), NoMemory> {
+    let Some(written) = program
+        .node(k)
+        .and_then(|node| difference_written(node.instr))
+    else {
+        return Ok(());
+    };
+    let j = forms.begin_family(written, None)?;
+    forms.want_from(program, j, k)
+}
+
+/// Looks for the forms of differences that instructions write.
+pub fn add_differences(forms: &mut Forms, program: &Program) -> Result<(), NoMemory> {
+    for k in 0..program.nodes.len() {
+        if forms.forms.len() < MOST_COPIES {
+            add_difference(forms, program, k)?;
+        }
+    }
+    Ok(())
 }
 
 /// Looks for the forms of copies.

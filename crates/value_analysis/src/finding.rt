@@ -1,8 +1,11 @@
 //! Tables of a program.
 
-use crate::copies::add_copies;
+use crate::cells::{Cells, Place};
+use crate::copies::{add_copies, add_differences};
 use crate::forms::Forms;
 use crate::growing::Growth;
+use crate::holding::narrow_numbers;
+use crate::keeping::confirmed_cells;
 use crate::moves::add_loops;
 use crate::narrowing::narrow;
 use crate::program::{Program, read_program};
@@ -19,6 +22,11 @@ use std::alloc::Global;
 
 /// How often intervals are narrowed.
 const NARROWED: usize = 2;
+
+/// How many runs there are with numbers in memory, and how many nodes all of them look at, at most.
+const MOST_ROUNDS: usize = 6;
+
+const MOST_NODES: usize = 32_768;
 
 // Tables that say nothing.
 fn blank_tables(alloc: Global, nodes: usize, functions: usize) -> Result<Tables, NoMemory> {
@@ -91,7 +99,10 @@ fn find_states(
     if !growth.settle(state)? {
         return Ok(false);
     }
-    narrow(alloc, growth, state, NARROWED)?;
+    for _ in 0..NARROWED {
+        narrow(alloc, growth, state, 1)?;
+        narrow_numbers(alloc, growth)?;
+    }
     return_all(growth);
     wait_for_all(growth)?;
     if !growth.settle(state)? {
@@ -105,24 +116,78 @@ fn forms_of(alloc: Global, program: &Program, tree: &LoopTree) -> Result<Forms, 
     let mut forms = Forms::new(alloc, program.nodes.len())?;
     add_loops(alloc, &mut forms, program, tree)?;
     add_copies(alloc, &mut forms, program)?;
+    add_differences(&mut forms, program)?;
     Ok(forms)
 }
 
-// Tables of a program, with the intervals of forms. Where it is too large, they say nothing.
-fn analyse_program(alloc: Global, program: &Program, forms: &Forms) -> Result<Tables, NoMemory> {
-    let mut growth = Growth::new(alloc, program, forms)?;
-    let mut state = State::blank();
-    if !find_states(alloc, &mut growth, &mut state)? {
-        return blank_tables(alloc, program.nodes.len(), program.entries.len());
+/// A program that is analysed: its image, its nodes and ways, and the sums of two registers that are looked for.
+#[derive(Clone, Copy)]
+struct Analysed<'a> {
+    view: &'a ImageView<'a>,
+    program: &'a Program,
+    forms: &'a Forms,
+}
+
+impl Analysed<'_> {
+    // How many runs there is time for with numbers in memory.
+    fn rounds(&self) -> usize {
+        (MOST_NODES / self.program.nodes.len().max(1)).min(MOST_ROUNDS)
     }
-    tables_of(alloc, growth)
+
+    // Tables by numbers in memory but for some, if all stores keep those that are used. Those that they don't are added.
+    fn try_cells(&self, alloc: Global, gone: &mut Vec<Place>) -> Result<Option<Tables>, NoMemory> {
+        let cells = Cells::new(alloc, self.program.nodes.len(), gone, true)?;
+        let mut growth = Growth::new(alloc, self.program, self.forms, self.view, cells)?;
+        let mut state = State::blank();
+        if !find_states(alloc, &mut growth, &mut state)? {
+            return Ok(None);
+        }
+        let Some(cells) = confirmed_cells(alloc, &growth, gone)? else {
+            return Ok(None);
+        };
+        let mut tables = tables_of(alloc, growth)?;
+        tables.stack.cells = cells;
+        Ok(Some(tables))
+    }
+
+    // Tables without numbers in memory. Where the program is too large, they say nothing.
+    fn analyse_plainly(&self, alloc: Global) -> Result<Tables, NoMemory> {
+        let nodes = self.program.nodes.len();
+        let cells = Cells::new(alloc, nodes, &[], false)?;
+        let mut growth = Growth::new(alloc, self.program, self.forms, self.view, cells)?;
+        let mut state = State::blank();
+        if !find_states(alloc, &mut growth, &mut state)? {
+            return blank_tables(alloc, nodes, self.program.entries.len());
+        }
+        tables_of(alloc, growth)
+    }
+
+    // Tables, with the intervals of forms: by as many numbers in memory as all stores keep.
+    fn analyse(&self, alloc: Global) -> Result<Tables, NoMemory> {
+        let mut gone = Vec::new(alloc);
+        for _ in 0..self.rounds() {
+            let before = gone.len();
+            if let Some(tables) = self.try_cells(alloc, &mut gone)? {
+                return Ok(tables);
+            }
+            if gone.len() == before {
+                break;
+            }
+        }
+        self.analyse_plainly(alloc)
+    }
 }
 
 /// Tables of a program, without sums of registers.
 pub fn analyse(alloc: Global, view: &ImageView<'_>, graph: &CodeGraph) -> Result<Tables, NoMemory> {
     let program = read_program(alloc, view, graph)?;
     let forms = Forms::new(alloc, program.nodes.len())?;
-    analyse_program(alloc, &program, &forms)
+    let analysed = Analysed {
+        view,
+        program: &program,
+        forms: &forms,
+    };
+    analysed.analyse(alloc)
 }
 
 /// Tables of a program, with sums of two registers by which its loops may end.
@@ -134,5 +199,10 @@ pub fn analyse_loops(
 ) -> Result<Tables, NoMemory> {
     let program = read_program(alloc, view, graph)?;
     let forms = forms_of(alloc, &program, tree)?;
-    analyse_program(alloc, &program, &forms)
+    let analysed = Analysed {
+        view,
+        program: &program,
+        forms: &forms,
+    };
+    analysed.analyse(alloc)
 }

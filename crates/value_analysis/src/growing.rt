@@ -5,7 +5,9 @@ ghost use Rattle.std.specs.Prelude.{◌<◌};
 use crate::apart::raised;
 use crate::arcs::holds;
 use crate::calls::{CallSite, Callee, come_back, enter};
+use crate::cells::Cells;
 use crate::forms::Forms;
+use crate::holding::{look_at_memory, put_loaded};
 use crate::joining::{Change, Counts, Growing, Pace, grow_arc, grow_plain_row, word_key};
 use crate::lines::{Tracing, line_in};
 use crate::names::{Names, begun_name, begun_names, name_of};
@@ -18,6 +20,7 @@ use crate::stores::arc_of;
 use crate::tables::Row;
 use crate::thresholds::{Threshold, add_ends};
 use crate::ways::{Way, WayKind};
+use elf_image::ImageView;
 use scale_base::{Instr, NoMemory};
 use stack_tables::Name;
 use std::alloc::Global;
@@ -93,6 +96,9 @@ impl Known {
 pub struct Growth<'a> {
     pub program: &'a Program,
     pub forms: &'a Forms,
+    pub view: &'a ImageView<'a>,
+    /// Numbers in memory.
+    pub cells: Cells,
     /// By node.
     pub live: Vec<bool>,
     pub facts: Vec<Facts>,
@@ -127,6 +133,8 @@ impl<'a> Growth<'a> {
         alloc: Global,
         program: &'a Program,
         forms: &'a Forms,
+        view: &'a ImageView<'a>,
+        cells: Cells,
     ) -> Result<Growth<'a>, NoMemory> {
         let nodes = program.nodes.len();
         let functions = program.entries.len();
@@ -134,6 +142,8 @@ impl<'a> Growth<'a> {
         Ok(Growth {
             program,
             forms,
+            view,
+            cells,
             live: vec![in alloc; false; nodes]?,
             places: places_of(alloc, &order, nodes)?,
             order,
@@ -151,6 +161,20 @@ impl<'a> Growth<'a> {
     /// Whether a state may be at a node.
     pub fn is_live(&self, k: usize) -> bool {
         self.live.get(k).copied().unwrap_or(false)
+    }
+
+    /// Whether there is no time for more.
+    pub fn is_hasty(&self) -> bool {
+        self.flowed >= self.haste
+    }
+
+    /// The thresholds of a node's function.
+    pub fn thresholds_at(&self, k: usize) -> &[Threshold] {
+        let f = self.program.node(k).map(|node| node.function);
+        match f.and_then(|f| self.thresholds.get(f)) {
+            Some(thresholds) => thresholds,
+            None => &[],
+        }
     }
 
     /// The place of a node in the order.
@@ -213,6 +237,7 @@ impl<'a> Growth<'a> {
         if !pass(step, from, self.begins(node.function), to) {
             return false;
         }
+        put_loaded(&self.cells, step.instr, &from.row, &mut to.row);
         self.trace(step, from, way, to);
         true
     }
@@ -294,7 +319,7 @@ impl<'a> Growth<'a> {
 
     // How what is known at the end of a way grows.
     fn pace(&self, way: &Way) -> Pace {
-        if self.flowed >= self.haste {
+        if self.is_hasty() {
             Pace::Hasty
         } else if self.place(self.source(way)) <= self.place(way.to) {
             Pace::Widened
@@ -407,7 +432,7 @@ impl<'a> Growth<'a> {
 
     // Looks at a return.
     fn look_at_return(&mut self, k: usize, f: usize) -> Result<(), NoMemory> {
-        let pace = if self.flowed >= self.haste {
+        let pace = if self.is_hasty() {
             Pace::Hasty
         } else {
             Pace::Joined
@@ -495,6 +520,7 @@ impl<'a> Growth<'a> {
             self.waits[k] = false;
         }
         self.note_comparison(k)?;
+        look_at_memory(self, k)?;
         let program = self.program;
         if let Some(node) = program.node(k) {
             for w in node.first..node.end {

@@ -126,8 +126,14 @@ impl Counts {
     }
 }
 
-// An interval that has grown so often, at the end of a way back.
-fn widened_by(old: Arc, both: Arc, count: u8, key: u8, thresholds: &[Threshold]) -> Option<Arc> {
+/// An interval that has grown so often, at the end of a way back.
+pub fn widened_by(
+    old: Arc,
+    both: Arc,
+    count: u8,
+    key: u8,
+    thresholds: &[Threshold],
+) -> Option<Arc> {
     if count < WIDENED_FROM {
         Some(both)
     } else if count < ALL_FROM {

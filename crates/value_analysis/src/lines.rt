@@ -5,10 +5,11 @@ ghost use Rattle.std.specs.Prelude.{◌≡◌, ◌<◌, length, true};
 use crate::apart::raised;
 use crate::arcs::{WORDS, kept, shorter};
 use crate::befores::{before, turned};
-use crate::forms::{Forms, MOST_WANTED, is_same_sum};
+use crate::forms::{Forms, MOST_WANTED, difference, is_same_sum};
 use crate::passing::Step;
-use crate::rows::{is_different, line_of_row, passed_word, solved_arc, unknown};
+use crate::rows::{compared_line, is_different, line_of_row, passed_word, solved_arc, unknown};
 use crate::states::{Facts, State};
+use scale_base::{Instr, RegOp};
 use value_checks::Line;
 use wrapped_intervals::{Arc, Measure, effect, said_by};
 
@@ -175,22 +176,21 @@ impl Tracing<'_> {
     // By what it was before the instruction.
     fn by_line(&self, j: usize, m: Measure) -> Option<Arc> {
         match effect(m, self.step.instr) {
-            Some(added) => {
-                let arc = raised(line_in(&self.from.lines, j), added);
-                if added == 0 && self.differs(m) {
-                    without(arc, m.shift)
-                } else {
-                    arc
-                }
-            }
+            Some(0) => self.told(line_in(&self.from.lines, j), m),
+            Some(added) => raised(line_in(&self.from.lines, j), added),
             None => self.line_of_measure(before(m, self.step.instr)?),
         }
     }
 
-    // Whether the branch says that the registers differ.
-    fn differs(&self, m: Measure) -> bool {
+    // A line of a measure to which nothing is added, with what the branch says of it: that its registers differ, or by how much.
+    fn told(&self, line: Option<Arc>, m: Measure) -> Option<Arc> {
         let said = said_by(self.step.instr, self.step.at, self.step.next);
-        is_different(said, m, &self.from.row)
+        let met = compared_line(said, m, &line, &self.from.row);
+        if met == line && is_different(said, m, &self.from.row) {
+            without(line, m.shift)
+        } else {
+            met
+        }
     }
 
     // By the registers before the instruction.
@@ -247,8 +247,35 @@ impl Tracing<'_> {
         }
     }
 
+    // What a line says of the difference of words that the instruction writes.
+    fn subtracted(&self) -> Option<(u8, Arc)> {
+        match self.step.instr {
+            Instr::Reg {
+                op: RegOp::Sub,
+                rd,
+                rs1,
+                rs2,
+            } => {
+                let _word = self.from.row.get(usize::from(rs2)).copied().flatten()?;
+                Some((rd, self.line_of_measure(difference(rs1, rs2))?))
+            }
+            _ => None,
+        }
+    }
+
+    // Puts it.
+    fn put_subtracted(&self, to: &mut State) {
+        if let Some((r, arc)) = self.subtracted() {
+            let place = usize::from(r);
+            if place < 32 && arc.more() < LONGEST {
+                to.solved[place] = shorter(to.solved[place], Some(arc));
+            }
+        }
+    }
+
     /// Puts what lines say of registers.
     pub fn put_solved(&self, to: &mut State) {
+        self.put_subtracted(to);
         for line in &self.from.lines {
             if let Some((r, arc)) = self.solved_by(line) {
                 let place = usize::from(r);

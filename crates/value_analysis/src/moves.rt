@@ -9,7 +9,7 @@ use crate::ways::WayKind;
 use loop_forest::LoopTree;
 use scale_base::{ImmOp, Instr, NoMemory};
 use std::alloc::Global;
-use wrapped_intervals::keeps;
+use wrapped_intervals::{Measure, keeps};
 
 /// How many forms a loop has at most.
 const MOST_OF_LOOP: usize = 6;
@@ -69,6 +69,37 @@ fn one_step(before: Move, i: Instr) -> Option<i32> {
         ) => Some(imm),
         _ => None,
     }
+}
+
+// By how much more or less than a register another one is that an instruction writes.
+fn step_to(i: Instr, r: u8) -> Option<i32> {
+    match i {
+        Instr::Imm {
+            op: ImmOp::Addi,
+            rd,
+            rs1,
+            imm,
+        } if rs1 == r && rd != r && imm != 0 => Some(imm),
+        _ => None,
+    }
+}
+
+// How many times as far one step goes as another, modulo 2^32, where that is a whole number.
+fn times_as_far(one: Option<i32>, other: Option<i32>) -> Option<u32> {
+    let (m, n) = (i64::from(one?), i64::from(other?));
+    if n == 0 || m == 0 || m % n != 0 {
+        return None;
+    }
+    let times = i32::try_from(m / n).ok()?;
+    Some(times.cast_unsigned())
+}
+
+/// A register that a loop tests: where it goes, and by how much, if that is one number.
+#[derive(Clone, Copy)]
+struct Tested {
+    register: u8,
+    way: Move,
+    step: Option<i32>,
 }
 
 // Whether a node calls a function.
@@ -153,18 +184,9 @@ impl Moving<'_> {
 
     // What a node makes of a register, by a copy of it, one more or one less, to another one.
     fn step_from(&self, k: usize, r: u8) -> Move {
-        match self.program.node(k).map(|node| node.instr) {
-            Some(
-                Instr::Imm {
-                    op: ImmOp::Addi,
-                    rd,
-                    rs1,
-                    imm,
-                },
-            ) if rs1 == r && rd != r && imm != 0 => {
-                if imm > 0 { Move::Rises } else { Move::Falls }
-            }
-            _ => Move::Kept,
+        match self.program.node(k).and_then(|node| step_to(node.instr, r)) {
+            Some(imm) => { if imm > 0 { Move::Rises } else { Move::Falls } }
+            None => Move::Kept,
         }
     }
 
@@ -177,18 +199,22 @@ impl Moving<'_> {
         way
     }
 
-    // Looks for a form of a register that is tested and goes such a way with one that is moved on.
-    fn want_beside(
-        &self,
-        forms: &mut Forms,
-        moved: u8,
-        tested: u8,
-        way: Move,
-    ) -> Result<(), NoMemory> {
-        let m = if self.move_of(moved) == way {
-            difference(moved, tested)
-        } else {
-            sum(moved, tested)
+    // Looks for a form of a register that is tested and goes such a way with one that is moved on: with one that goes so many times as far, the form has the one
+    // that is tested so many times.
+    fn want_beside(&self, forms: &mut Forms, moved: u8, tested: Tested) -> Result<(), NoMemory> {
+        let other = tested.register;
+        let m = match times_as_far(self.step_of(moved), tested.step) {
+            Some(times) => Measure {
+                other_factor: times.wrapping_neg(),
+                ..difference(moved, other)
+            },
+            None => {
+                if self.move_of(moved) == tested.way {
+                    difference(moved, other)
+                } else {
+                    sum(moved, other)
+                }
+            }
         };
         let j = forms.begin_family(m, None)?;
         forms.want_from(self.program, j, self.header)
@@ -198,37 +224,65 @@ impl Moving<'_> {
         self.steps.get(usize::from(r)).copied().flatten()
     }
 
-    // Whether two registers keep their distance, or their sum: each turn moves them on by the same number, or one by as much as the other goes back.
-    fn are_beside(&self, one: u8, other: u8) -> bool {
-        match (self.step_of(one), self.step_of(other)) {
-            (Some(m), Some(n)) => m == n || m == n.wrapping_neg(),
+    // Whether a register is moved on, and goes with another one, which is tested and is moved on too, or by way of a third one.
+    fn goes_with(&self, moved: u8, tested: Tested) -> bool {
+        match (self.move_of(moved), self.move_of(tested.register)) {
+            (Move::Rises | Move::Falls, Move::Lost) => true,
+            (Move::Rises | Move::Falls, _) => {
+                moved != tested.register && times_as_far(self.step_of(moved), tested.step).is_some()
+            }
             _ => false,
         }
     }
 
-    // Whether one of two registers is moved on, and goes with the other, which is tested and is moved on too, or by way of another one.
-    fn goes_with(&self, moved: u8, tested: u8) -> bool {
-        match (self.move_of(moved), self.move_of(tested)) {
-            (Move::Rises | Move::Falls, Move::Lost) => true,
-            (Move::Rises | Move::Falls, _) => moved != tested && self.are_beside(moved, tested),
-            _ => false,
+    // By how much a register is moved on by way of another one, where that is one number.
+    fn step_aside(&self, body: &[usize], r: u8) -> Option<i32> {
+        let mut step = None;
+        for k in body {
+            if let Some(imm) = self
+                .program
+                .node(*k)
+                .and_then(|node| step_to(node.instr, r))
+            {
+                if step.is_some_and(|other| other != imm) {
+                    return None;
+                }
+                step = Some(imm);
+            }
+        }
+        step
+    }
+
+    // A register that is tested, if it is moved on.
+    fn tested_register(&self, body: &[usize], register: u8) -> Option<Tested> {
+        let (way, step) = match self.move_of(register) {
+            Move::Lost => (
+                self.moved_aside(body, register),
+                self.step_aside(body, register),
+            ),
+            way => (way, self.step_of(register)),
+        };
+        if register < 3 || way == Move::Kept || way == Move::Lost {
+            None
+        } else {
+            Some(Tested {
+                register,
+                way,
+                step,
+            })
         }
     }
 
     // The same with each that is moved on.
-    fn want_aside(&self, forms: &mut Forms, body: &[usize], tested: u8) -> Result<(), NoMemory> {
-        let way = match self.move_of(tested) {
-            Move::Lost => self.moved_aside(body, tested),
-            way => way,
-        };
-        if tested < 3 || way == Move::Kept || way == Move::Lost {
+    fn want_aside(&self, forms: &mut Forms, body: &[usize], r: u8) -> Result<(), NoMemory> {
+        let Some(tested) = self.tested_register(body, r) else {
             return Ok(());
-        }
+        };
         let mut found = 0;
         for r in 3..32u8 {
             if found < MOST_BESIDE && self.goes_with(r, tested) {
                 found += 1;
-                self.want_beside(forms, r, tested, way)?;
+                self.want_beside(forms, r, tested)?;
             }
         }
         Ok(())

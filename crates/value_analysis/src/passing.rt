@@ -3,7 +3,7 @@
 ghost use Rattle.std.specs.Prelude.{◌≡◌, ◌<◌};
 
 use crate::apart::{raised, summed};
-use crate::arcs::{kept, shorter};
+use crate::arcs::{only, shorter};
 use crate::names::{begun_name, name_of, offset_of, raised_name};
 use crate::rows::{passed_row, passed_word};
 use crate::states::{Facts, State, UNKNOWN_WORD};
@@ -34,16 +34,6 @@ struct Passing<'a> {
 /// Convention). Others are loaded for what the word holds.
 pub fn is_restorable(r: u8) -> bool {
     r < 5 || r == 8 || r == 9 || (18..28).contains(&r)
-}
-
-// The one number of an interval.
-fn only(arc: Option<Arc>) -> Option<u32> {
-    let i = kept(arc)?;
-    if i.more() == 0 {
-        u32::try_from(i.low()).ok()
-    } else {
-        None
-    }
 }
 
 impl Passing<'_> {

@@ -8,8 +8,8 @@ use crate::arcs::{fewer, holds, joined, kept, shorter};
 use crate::tables::Row;
 use scale_base::{BranchOp, Instr};
 use wrapped_intervals::{
-    Arc, Measure, Said, exactly, is_difference, is_impossible, is_kept, keeps, line_of, passed,
-    said_by, solved,
+    Arc, Measure, Said, compared, exactly, is_difference, is_impossible, is_kept, keeps, line_of,
+    meet_of, passed, said_by, solved,
 };
 
 /// The stack pointer at the start of a run.
@@ -129,6 +129,15 @@ pub fn solved_arc(m: Measure, line: &Option<Arc>, other: &Option<Arc>) -> Option
 /// Whether a comparison says that the registers of a difference differ.
 pub fn is_different(said: Option<Said>, m: Measure, row: &Row) -> bool {
     are_kept(row) && is_difference(said, m, row)
+}
+
+/// The interval of a line that a comparison leaves as it is, by what it says of that.
+pub fn compared_line(said: Option<Said>, m: Measure, line: &Option<Arc>, row: &Row) -> Option<Arc> {
+    if are_kept(row) && is_kept(*line) {
+        kept(meet_of(*line, compared(said, m, row)))
+    } else {
+        *line
+    }
 }
 
 /// Joins a row to another.

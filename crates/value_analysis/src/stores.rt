@@ -100,6 +100,41 @@ pub fn target_of(i: Instr, row: &Row, names: &Names, spans: &Row) -> Option<Targ
     }
 }
 
+/// The addresses of the first byte that an instruction stores, where they are known, and how many bytes it stores at most.
+#[derive(Clone, Copy)]
+pub struct Reach {
+    pub arc: Option<Arc>,
+    pub most: u64,
+}
+
+// Where the read service stores.
+fn read_reach(row: &Row) -> Option<Reach> {
+    if has_not(arc_of(row, 17), READ) {
+        return None;
+    }
+    Some(Reach {
+        arc: kept(arc_of(row, 11)),
+        most: top_of(kept(arc_of(row, 12))).min(MOST_READ),
+    })
+}
+
+/// Where an instruction stores by the intervals of registers, if it does.
+pub fn reach_of(i: Instr, row: &Row) -> Option<Reach> {
+    match i {
+        Instr::Store {
+            op,
+            rs1,
+            offset,
+            ..
+        } => Some(Reach {
+            arc: raised(arc_of(row, rs1), offset.cast_unsigned()),
+            most: store_width(op),
+        }),
+        Instr::Ecall => read_reach(row),
+        _ => None,
+    }
+}
+
 /// How far above its function's first x2 a word is.
 pub fn word_offset(k: usize) -> u32 {
     let below = (k as u64).saturating_add(1).saturating_mul(4) % WORDS;

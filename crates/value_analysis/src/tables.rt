@@ -36,6 +36,7 @@ impl Tables {
                 restored: Vec::new(alloc),
                 place: None,
                 spared: Vec::new(alloc),
+                cells: Vec::new(alloc),
             },
         }
     }

@@ -142,13 +142,11 @@ fn versioned_at(
     pieces: &[Piece],
     sites: &[Site],
     base: u32,
-    len: u32,
 ) -> Result<Option<Made>, NoMemory>
     requires open { IsOpen view.now }
     requires few { length pieces.now ≤ 4096 }
     requires room { base < 4294819804 }
-    requires len { len ≡ versions.pieces_len pieces.now }
-    requires place { IsStubBase view.now len base }
+    requires place { IsStubBase view.now (versions.pieces_len pieces.now) base }
     ensures made { IfOk result (λ given. IfSome given (λ made. IsVersionedBy view.now pieces.now sites.now made.file.items made.words)) }
     ensures none { IfOk result (λ given. IfNone given (HasNone view.now pieces.now sites.now)) }
 {
@@ -161,7 +159,7 @@ fn versioned_at(
     if !is_image(alloc, &file)? {
         return Ok(None);
     }
-    let words = len / 4;
+    let words = pieces_len(pieces) / 4;
     Ok(Some(Made { file, words }))
 }
 
@@ -188,5 +186,5 @@ pub fn versioned(
     if base >= BASES {
         return Ok(None);
     }
-    versioned_at(alloc, view, pieces, sites, base, len)
+    versioned_at(alloc, view, pieces, sites, base)
 }

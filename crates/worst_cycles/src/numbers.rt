@@ -24,7 +24,14 @@ impl Model for WorstNumbers {
 
     ghost Value = { WorstView };
 
-    ghost view = { λ n. record { worst = n.worst.items; iteration = n.iteration.items; left = n.left.items; context = n.context.items; slacks = n.slacks.items; rests = n.rests.items } };
+    ghost view = { λ n. record {
+      worst = n.worst.items;
+      iteration = n.iteration.items;
+      left = n.left.items;
+      context = n.context.items;
+      slacks = n.slacks.items;
+      rests = n.rests.items;
+    } };
 
     ghost invariant = { λ n. 0 < length n.worst.items };
 }

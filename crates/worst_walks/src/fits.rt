@@ -17,6 +17,21 @@ use loop_forest::LoopTree;
 use scale_base::NoMemory;
 use std::alloc::Global;
 
+/// How often functions are called, and loops entered.
+#[derive(Clone, Copy)]
+pub struct PartTimes<'a> {
+    pub calls: &'a [u64],
+    pub entries: &'a [u64],
+}
+
+/// How often a walk takes edges, calls functions, and enters loops.
+#[derive(Clone, Copy)]
+pub struct WalkTimes<'a> {
+    pub taken: &'a [u64],
+    pub calls: &'a [u64],
+    pub entries: &'a [u64],
+}
+
 /// By edge, how often it is taken where paths are gone once a call, and iterations as often as may be. None where the lists are no such
 /// parts, or a number isn't in range.
 pub fn take_parts(
@@ -24,26 +39,27 @@ pub fn take_parts(
     graph: &CodeGraph,
     tree: &LoopTree,
     parts: &Parts,
-    calls: &[u64],
-    entries: &[u64],
+    times: &PartTimes<'_>,
 ) -> Result<Option<Vec<u64>>, NoMemory>
     requires tree { (extent : ℕ → ℕ → Bool) × IsLoopTree graph.now extent tree.now }
     requires paths { length parts.now.paths.items ≡ length graph.now.code.functions }
     requires turns { length parts.now.turns.items ≡ length tree.now.headers }
-    requires calls { length calls.now ≡ length graph.now.code.functions }
-    requires entries { length entries.now ≡ length tree.now.headers }
+    requires calls { length times.now.calls.now ≡ length graph.now.code.functions }
+    requires entries { length times.now.entries.now ≡ length tree.now.headers }
     ensures { IfOk result (λ o. IfSome o (λ taken. AreTaken graph.now tree.now (bodies_of parts.now.paths.items)
-        (bodies_of parts.now.turns.items) calls.now entries.now taken.items)) }
+        (bodies_of parts.now.turns.items) times.now.calls.now times.now.entries.now taken.items)) }
 {
     let _nodes = graph.node_count();
     if !are_paths(graph, tree, &parts.paths) || !are_turns(graph, tree, &parts.turns) {
         return Ok(None);
     }
-    let Some(turns) = all_turns(alloc, tree.bounds(), entries)? else {
+    let Some(turns) = all_turns(alloc, tree.bounds(), times.entries)? else {
         return Ok(None);
     };
     let mut taken = nothing_taken(alloc, graph.edge_count())?;
-    if take_lists(&parts.paths, calls, &mut taken) && take_lists(&parts.turns, &turns, &mut taken) {
+    if take_lists(&parts.paths, times.calls, &mut taken)
+        && take_lists(&parts.turns, &turns, &mut taken)
+    {
         Ok(Some(taken))
     } else {
         Ok(None)
@@ -77,28 +93,33 @@ pub fn are_entered(
     graph: &CodeGraph,
     tree: &LoopTree,
     ones: &[u64],
-    taken: &[u64],
-    calls: &[u64],
-    entries: &[u64],
+    times: &WalkTimes<'_>,
 ) -> Result<bool, NoMemory>
     requires tree { (extent : ℕ → ℕ → Bool) × IsLoopTree graph.now extent tree.now }
     requires ones { AreOnes (length graph.now.code.edges) ones.now }
-    requires taken { length taken.now ≡ length graph.now.code.edges }
-    requires calls { length calls.now ≡ length graph.now.code.functions }
-    requires entries { length entries.now ≡ length tree.now.headers }
-    ensures { IfOk result (λ b. b ≡ true → AreEntered graph.now tree.now taken.now calls.now entries.now) }
+    requires taken { length times.now.taken.now ≡ length graph.now.code.edges }
+    requires calls { length times.now.calls.now ≡ length graph.now.code.functions }
+    requires entries { length times.now.entries.now ≡ length tree.now.headers }
+    ensures { IfOk result (λ b. b ≡ true → AreEntered graph.now tree.now times.now.taken.now times.now.calls.now times.now.entries.now) }
 {
     let _nodes = graph.node_count();
     let entered = entered_loops(alloc, graph, tree)?;
     let begun = begun_loops(alloc, graph, tree)?;
     let function_ones = ones_of(alloc, graph.function_count())?;
-    let Some(over) = tally(alloc, tree.loop_count(), &entered, taken, ones)? else {
+    let Some(over) = tally(alloc, tree.loop_count(), &entered, times.taken, ones)? else {
         return Ok(false);
     };
-    let Some(by_call) = tally(alloc, tree.loop_count(), &begun, calls, &function_ones)? else {
+    let Some(by_call) = tally(
+        alloc,
+        tree.loop_count(),
+        &begun,
+        times.calls,
+        &function_ones,
+    )?
+    else {
         return Ok(false);
     };
-    Ok(are_sums(&over, &by_call, entries))
+    Ok(are_sums(&over, &by_call, times.entries))
 }
 
 /// By edge, how often it is taken along a walk whose parts are gone so often. None where the numbers don't fit.
@@ -107,23 +128,32 @@ pub fn walked_edges(
     graph: &CodeGraph,
     tree: &LoopTree,
     parts: &Parts,
-    calls: &[u64],
-    entries: &[u64],
+    times: &PartTimes<'_>,
 ) -> Result<Option<Vec<u64>>, NoMemory>
     requires tree { (extent : ℕ → ℕ → Bool) × IsLoopTree graph.now extent tree.now }
     requires paths { length parts.now.paths.items ≡ length graph.now.code.functions }
     requires turns { length parts.now.turns.items ≡ length tree.now.headers }
-    requires calls { length calls.now ≡ length graph.now.code.functions }
-    requires entries { length entries.now ≡ length tree.now.headers }
-    ensures { IfOk result (λ o. IfSome o (λ taken. IsWalked graph.now tree.now calls.now entries.now taken.items)) }
+    requires calls { length times.now.calls.now ≡ length graph.now.code.functions }
+    requires entries { length times.now.entries.now ≡ length tree.now.headers }
+    ensures { IfOk result (λ o. IfSome o (λ taken. IsWalked graph.now tree.now times.now.calls.now times.now.entries.now taken.items)) }
 {
     let _nodes = graph.node_count();
-    let Some(taken) = take_parts(alloc, graph, tree, parts, calls, entries)? else {
+    let Some(taken) = take_parts(alloc, graph, tree, parts, times)? else {
         return Ok(None);
     };
     let ones = ones_of(alloc, graph.edge_count())?;
-    let called = are_called(alloc, graph, &ones, &taken, calls)?;
-    let entered = are_entered(alloc, graph, tree, &ones, &taken, calls, entries)?;
+    let called = are_called(alloc, graph, &ones, &taken, times.calls)?;
+    let entered = are_entered(
+        alloc,
+        graph,
+        tree,
+        &ones,
+        &WalkTimes {
+            taken: &taken,
+            calls: times.calls,
+            entries: times.entries,
+        },
+    )?;
     if !called || !entered {
         return Ok(None);
     }

@@ -40,6 +40,14 @@ enum Way {
     Closed,
 }
 
+/// A search: for what, from which node on, and the mark that it leaves at each node that it comes to.
+#[derive(Clone, Copy)]
+struct WalkSearch {
+    sought: Sought,
+    start: usize,
+    mark: usize,
+}
+
 /// A node of a path, by those of its edges that are still to be tried.
 #[derive(Clone, Copy, Drop)]
 struct Step {
@@ -149,19 +157,17 @@ fn comes_to(seen: &mut [usize], k: usize, mark: usize) -> bool {
 }
 
 /// Looks for a path or an iteration from a node: the edges of the first that is found, or none.
-fn search(
+fn find_edges(
     alloc: Global,
     known: &Known<'_>,
-    sought: Sought,
-    start: usize,
-    mark: usize,
+    search: WalkSearch,
     seen: &mut [usize],
 ) -> Result<Vec<usize>, NoMemory>
     requires { IsKnown known.now }
 {
     let mut edges: Vec<usize> = Vec::new(alloc);
     let mut steps: Vec<Step> = Vec::new(alloc);
-    steps.push(step_at(known.graph, start))?;
+    steps.push(step_at(known.graph, search.start))?;
     for _ in 0..MOST_STEPS {
         let Some(step) = steps.pop() else {
             break;
@@ -175,13 +181,13 @@ fn search(
             next: e + 1,
             end: step.end,
         })?;
-        match way_on(known, sought, e) {
+        match way_on(known, search.sought, e) {
             Way::Ends => {
                 edges.push(e)?;
                 break;
             }
             Way::Leads(k) => {
-                if comes_to(seen, k, mark) {
+                if comes_to(seen, k, search.mark) {
                     edges.push(e)?;
                     steps.push(step_at(known.graph, k))?;
                 }
@@ -206,7 +212,12 @@ fn find_path(
     if known.worst.left(entry) == 0 {
         return Ok(Vec::new(alloc));
     }
-    search(alloc, known, Sought::Path, entry, f.saturating_add(1), seen)
+    let search = WalkSearch {
+        sought: Sought::Path,
+        start: entry,
+        mark: f.saturating_add(1),
+    };
+    find_edges(alloc, known, search, seen)
 }
 
 /// Looks for a path of each function.
@@ -236,8 +247,12 @@ fn find_turns(
 {
     let mut turns = Vec::new(alloc);
     for l in 0..known.tree.loop_count() {
-        let header = known.tree.header(l);
-        turns.push(search(alloc, known, Sought::Turn(l), header, l + 1, seen)?)?;
+        let search = WalkSearch {
+            sought: Sought::Turn(l),
+            start: known.tree.header(l),
+            mark: l + 1,
+        };
+        turns.push(find_edges(alloc, known, search, seen)?)?;
     }
     Ok(turns)
 }

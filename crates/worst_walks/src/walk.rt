@@ -9,7 +9,7 @@ ghost use Rattle.worst_walks.specs.Known.{HasCountSizes};
 ghost use Rattle.worst_walks.specs.Owned.{AreTurns, AreWhole};
 
 use crate::counts::WalkCounts;
-use crate::fits::walked_edges;
+use crate::fits::{PartTimes, walked_edges};
 use crate::keys::ones;
 use crate::own::{OwnCycles, add_up, own_cycles, takes};
 use crate::parts::Parts;
@@ -44,25 +44,31 @@ fn taken_turns(
     tally(alloc, tree.loop_count(), tree.backs(), taken, &ones)
 }
 
+/// By edge, how often a walk takes it, and the cycles that the walk takes.
+#[derive(Clone, Copy)]
+struct WalkedEdges<'a> {
+    taken: &'a [u64],
+    worst: u64,
+}
+
 /// The own cycles of functions and loops, where edges that are taken so often take so many cycles.
 fn whole_cycles(
     alloc: Global,
     graph: &CodeGraph,
     tree: &LoopTree,
     weights: &Weights,
-    taken: &[u64],
-    worst: u64,
+    walk: &WalkedEdges<'_>,
 ) -> Result<Option<OwnCycles>, NoMemory>
     requires tree { (extent : ℕ → ℕ → Bool) × IsLoopTree graph.now extent tree.now }
     requires weights { length weights.now ≡ length graph.now.code.edges }
-    requires taken { length taken.now ≡ length graph.now.code.edges }
-    ensures { IfOk result (λ o. IfSome o (λ own. AreWhole graph.now tree.now weights.now taken.now worst own)) }
+    requires taken { length walk.now.taken.now ≡ length graph.now.code.edges }
+    ensures { IfOk result (λ o. IfSome o (λ own. AreWhole graph.now tree.now weights.now walk.now.taken.now walk.now.worst own)) }
 {
     let wide = wide_weights(alloc, weights)?;
-    let Some(own) = own_cycles(alloc, graph, tree, taken, &wide)? else {
+    let Some(own) = own_cycles(alloc, graph, tree, walk.taken, &wide)? else {
         return Ok(None);
     };
-    if takes(taken, &wide, worst) && add_up(&own.functions, &own.loops, worst) {
+    if takes(walk.taken, &wide, walk.worst) && add_up(&own.functions, &own.loops, walk.worst) {
         Ok(Some(own))
     } else {
         Ok(None)
@@ -90,13 +96,27 @@ pub fn count_walk(
     let _nodes = graph.node_count();
     let worst = proposal.worst;
     let (calls, entries) = (proposal.calls, proposal.entries);
-    let Some(taken) = walked_edges(alloc, graph, tree, &proposal.parts, &calls, &entries)? else {
+    let Some(taken) = walked_edges(
+        alloc,
+        graph,
+        tree,
+        &proposal.parts,
+        &PartTimes {
+            calls: &calls,
+            entries: &entries,
+        },
+    )?
+    else {
         return Ok(None);
     };
     let Some(turns) = taken_turns(alloc, graph, tree, &taken)? else {
         return Ok(None);
     };
-    let Some(own) = whole_cycles(alloc, graph, tree, weights, &taken, worst)? else {
+    let walk = WalkedEdges {
+        taken: &taken,
+        worst,
+    };
+    let Some(own) = whole_cycles(alloc, graph, tree, weights, &walk)? else {
         return Ok(None);
     };
     Ok(Some(WalkCounts {

@@ -16,8 +16,8 @@ mod views;
 pub use arcs::{Arc, exactly, holds, is_kept, top_of, word};
 pub use bits::common_of;
 pub use branches::{Said, is_impossible, keeps, kept_by, passed, said_by};
-pub use covering::{ahead, covers};
-pub use lines::{Measure, effect, is_difference, line_by, line_of, solved};
+pub use covering::{ahead, covers, meet_of};
+pub use lines::{Measure, compared, effect, is_difference, line_by, line_of, solved};
 pub use results::{held, written};
 pub use sums::{difference_of, negated, opposite_of, scaled, sum_of, sum_with, times};
 pub use views::{

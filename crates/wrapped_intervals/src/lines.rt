@@ -9,7 +9,8 @@ ghost use Rattle.wrapped_intervals.specs.Small.{IsFoundOr, IsKeptOr, line_by, me
 use crate::arcs::{Arc, WORDS};
 use crate::branches::{Said, keeps};
 use crate::results::held;
-use crate::sums::{opposite_of, scaled, sum_of, sum_with};
+use crate::sums::{negated, opposite_of, scaled, sum_of, sum_with};
+use crate::views::difference_by;
 use scale_base::{BranchOp, ImmOp, Instr};
 
 /// A number that goes with two registers: a sum of multiples of them and of a shift, modulo 2^32, where the factor 2^32 - 1 stands for -1.
@@ -120,5 +121,54 @@ pub fn is_difference(said: Option<Said>, m: Measure, at: &[Option<Arc>]) -> bool
                 && ((m.factor == 1 && m.other_factor == 4_294_967_295)
                     || (m.factor == 4_294_967_295 && m.other_factor == 1))
         }
+    }
+}
+
+// Whether a measure is the first register less the second one, and its shift.
+fn is_minus(m: Measure, first: u8, second: u8) -> bool
+    ensures { result ≡ values.is_minus (measure_view m) first second }
+{
+    m.register == first && m.factor == 1 && (m.other == second && m.other_factor == 4_294_967_295)
+}
+
+// The number below 0 in place of the one above, modulo 2^32.
+fn turned(d: Option<Arc>) -> Option<Arc>
+    requires { IsFoundOr d }
+    ensures turned { result ≡ option_map values.negated d }
+    ensures found { IsFoundOr result }
+{
+    match d {
+        Some(d) => Some(negated(d)),
+        None => None,
+    }
+}
+
+// What a comparison says of a measure.
+fn compared_by(s: Said, m: Measure, at: &[Option<Arc>]) -> Option<Arc>
+    requires size { length at.now ≡ 32 }
+    requires kept { All IsKeptOr at.now }
+    ensures compared { result ≡ values.compared (Some (said_view s)) (measure_view m) (row at.now) }
+    ensures found { IsFoundOr result }
+{
+    let difference = difference_by(s.op, held(at, s.first), held(at, s.second));
+    if is_minus(m, s.first, s.second) {
+        sum_with(difference, u64::from(m.shift))
+    } else if is_minus(m, s.second, s.first) {
+        sum_with(turned(difference), u64::from(m.shift))
+    } else {
+        None
+    }
+}
+
+/// What a comparison says of a measure that is a difference of its registers and a shift.
+pub fn compared(said: Option<Said>, m: Measure, at: &[Option<Arc>]) -> Option<Arc>
+    requires size { length at.now ≡ 32 }
+    requires kept { All IsKeptOr at.now }
+    ensures compared { result ≡ values.compared (option_map said_view said) (measure_view m) (row at.now) }
+    ensures found { IsFoundOr result }
+{
+    match said {
+        Some(s) => compared_by(s, m, at),
+        None => None,
     }
 }

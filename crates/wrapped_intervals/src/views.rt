@@ -177,6 +177,62 @@ pub fn second_range(op: BranchOp, i: Interval, j: Interval) -> Interval
     }
 }
 
+// The differences of numbers of two intervals, and 2^32 more.
+fn differences(i: Interval, j: Interval) -> Interval
+    requires i_from { i.from ≤ 2 ^ 32 }
+    requires i_to { i.to < 2 ^ 32 }
+    requires j_from { j.from ≤ 2 ^ 32 }
+    requires j_to { j.to < 2 ^ 32 }
+    ensures differences { result ≡ values.differences i j }
+{
+    between(i.from + WORDS - j.to, i.to + WORDS - j.from)
+}
+
+// Those of numbers that compare so.
+fn ordered(op: BranchOp, d: Interval) -> Interval
+    ensures { result ≡ values.ordered op d }
+{
+    match op {
+        BranchOp::Beq => between(WORDS, WORDS),
+        BranchOp::Bne => d,
+        BranchOp::Blt | BranchOp::Bltu => between(d.from, d.to.min(WORDS - 1)),
+        BranchOp::Bge | BranchOp::Bgeu => between(d.from.max(WORDS), d.to),
+    }
+}
+
+// And as words.
+fn of_differences(d: Interval) -> Arc
+    ensures arc { result ≡ values.of_differences d }
+    ensures found { IsFound result }
+{
+    Arc::of(d.from % WORDS, d.to.saturating_sub(d.from).min(WORDS - 1))
+}
+
+// The first word less the second one, where the comparison holds.
+fn difference_where(op: BranchOp, i: Arc, j: Arc) -> Arc
+    requires i { IsKept i }
+    requires j { IsKept j }
+    ensures arc { Some result ≡ values.difference_by op (Some i) (Some j) }
+    ensures found { IsFound result }
+{
+    let first = first_range(op, view(op, i), view(op, j));
+    let second = second_range(op, view(op, i), view(op, j));
+    of_differences(ordered(op, differences(first, second)))
+}
+
+/// The first word less the second one, where a comparison of them holds.
+pub fn difference_by(op: BranchOp, i: Option<Arc>, j: Option<Arc>) -> Option<Arc>
+    requires i { IsKeptOr i }
+    requires j { IsKeptOr j }
+    ensures difference { result ≡ values.difference_by op i j }
+    ensures found { IsFoundOr result }
+{
+    match (i, j) {
+        (Some(i), Some(j)) => Some(difference_where(op, i, j)),
+        _ => None,
+    }
+}
+
 /// Whether there is no number between.
 pub fn is_empty(i: Interval) -> bool
     ensures { result ≡ nat_lt i.to i.from }

@@ -30,6 +30,14 @@ pub struct Marking {
     queue: Vec<usize>,
 }
 
+// A program's steps by word, which of its words return, and the word at which it begins.
+#[derive(Clone, Copy)]
+struct Program<'a> {
+    steps: &'a [Step],
+    returning: &'a [bool],
+    entry: usize,
+}
+
 // What a mark becomes by another, where it changes.
 fn raise(old: Mark, mark: Mark) -> Option<Mark>
     ensures { result ≡ raised old mark }
@@ -93,21 +101,14 @@ fn next_word(step: Step, returning: &[bool], u: usize) -> Option<usize>
 }
 
 // Adds functions to a word's mark.
-fn reach(
-    steps: &[Step],
-    returning: &[bool],
-    entry: usize,
-    marking: &mut Marking,
-    k: usize,
-    mark: Mark,
-) -> Result<(), NoMemory>
-    requires within { k < length steps.now }
-    requires room { length steps.now < 2 ^ 32 }
-    requires pass { IsMarkPass steps.now returning.now entry marking.old.marks.items marking.old.functions.items marking.old.numbers.items
-        marking.old.queue.items }
-    requires due { IsDue steps.now returning.now entry mark k }
-    ensures pass { OnOk result (IsMarkPass steps.now returning.now entry marking.new.marks.items marking.new.functions.items
-        marking.new.numbers.items marking.new.queue.items) }
+fn reach(program: &Program<'_>, marking: &mut Marking, k: usize, mark: Mark) -> Result<(), NoMemory>
+    requires within { k < length program.now.steps.now }
+    requires room { length program.now.steps.now < 2 ^ 32 }
+    requires pass { IsMarkPass program.now.steps.now program.now.returning.now program.now.entry marking.old.marks.items
+        marking.old.functions.items marking.old.numbers.items marking.old.queue.items }
+    requires due { IsDue program.now.steps.now program.now.returning.now program.now.entry mark k }
+    ensures pass { OnOk result (IsMarkPass program.now.steps.now program.now.returning.now program.now.entry marking.new.marks.items
+        marking.new.functions.items marking.new.numbers.items marking.new.queue.items) }
     ensures grows { OnOk result (MarksGrow marking.old.marks.items marking.old.numbers.items marking.old.queue.items
         marking.new.marks.items marking.new.numbers.items marking.new.queue.items) }
     ensures reached { OnOk result (Below mark (mark_at marking.new.marks.items k)) }
@@ -122,46 +123,40 @@ fn reach(
 
 // Adds functions to the mark of a word of the text.
 fn reach_some(
-    steps: &[Step],
-    returning: &[bool],
-    entry: usize,
+    program: &Program<'_>,
     marking: &mut Marking,
     word: Option<usize>,
     mark: Mark,
 ) -> Result<(), NoMemory>
-    requires room { length steps.now < 2 ^ 32 }
-    requires pass { IsMarkPass steps.now returning.now entry marking.old.marks.items marking.old.functions.items marking.old.numbers.items
-        marking.old.queue.items }
-    requires due { (k : ℕ) → word ≡ Some k → k < length steps.now → IsDue steps.now returning.now entry mark k }
-    ensures pass { OnOk result (IsMarkPass steps.now returning.now entry marking.new.marks.items marking.new.functions.items
-        marking.new.numbers.items marking.new.queue.items) }
+    requires room { length program.now.steps.now < 2 ^ 32 }
+    requires pass { IsMarkPass program.now.steps.now program.now.returning.now program.now.entry marking.old.marks.items
+        marking.old.functions.items marking.old.numbers.items marking.old.queue.items }
+    requires due { (k : ℕ) → word ≡ Some k → k < length program.now.steps.now → IsDue program.now.steps.now program.now.returning.now
+        program.now.entry mark k }
+    ensures pass { OnOk result (IsMarkPass program.now.steps.now program.now.returning.now program.now.entry marking.new.marks.items
+        marking.new.functions.items marking.new.numbers.items marking.new.queue.items) }
     ensures grows { OnOk result (MarksGrow marking.old.marks.items marking.old.numbers.items marking.old.queue.items
         marking.new.marks.items marking.new.numbers.items marking.new.queue.items) }
-    ensures reached { OnOk result ((k : ℕ) → word ≡ Some k → k < length steps.now → Below mark (mark_at marking.new.marks.items k)) }
+    ensures reached { OnOk result ((k : ℕ) → word ≡ Some k → k < length program.now.steps.now → Below mark
+        (mark_at marking.new.marks.items k)) }
 {
     if let Some(k) = word {
-        if k < steps.len() {
-            reach(steps, returning, entry, marking, k, mark)?;
+        if k < program.steps.len() {
+            reach(program, marking, k, mark)?;
         }
     }
     Ok(())
 }
 
 // Numbers the function that begins at a word, where it has no number.
-fn number(
-    steps: &[Step],
-    returning: &[bool],
-    entry: usize,
-    marking: &mut Marking,
-    h: usize,
-) -> Result<(), NoMemory>
-    requires within { h < length steps.now }
-    requires room { length steps.now < 2 ^ 32 }
-    requires pass { IsMarkPass steps.now returning.now entry marking.old.marks.items marking.old.functions.items marking.old.numbers.items
-        marking.old.queue.items }
-    requires reached { ReachedAt steps.now returning.now entry h h }
-    ensures pass { OnOk result (IsMarkPass steps.now returning.now entry marking.new.marks.items marking.new.functions.items
-        marking.new.numbers.items marking.new.queue.items) }
+fn number(program: &Program<'_>, marking: &mut Marking, h: usize) -> Result<(), NoMemory>
+    requires within { h < length program.now.steps.now }
+    requires room { length program.now.steps.now < 2 ^ 32 }
+    requires pass { IsMarkPass program.now.steps.now program.now.returning.now program.now.entry marking.old.marks.items
+        marking.old.functions.items marking.old.numbers.items marking.old.queue.items }
+    requires reached { ReachedAt program.now.steps.now program.now.returning.now program.now.entry h h }
+    ensures pass { OnOk result (IsMarkPass program.now.steps.now program.now.returning.now program.now.entry marking.new.marks.items
+        marking.new.functions.items marking.new.numbers.items marking.new.queue.items) }
     ensures grows { OnOk result (MarksGrow marking.old.marks.items marking.old.numbers.items marking.old.queue.items
         marking.new.marks.items marking.new.numbers.items marking.new.queue.items) }
     ensures numbered { OnOk result ((i : ℕ) × (function_number marking.new.numbers.items h ≡ Some i)) }
@@ -178,20 +173,14 @@ fn number(
 }
 
 // Reaches the first word of a function in that function.
-fn call(
-    steps: &[Step],
-    returning: &[bool],
-    entry: usize,
-    marking: &mut Marking,
-    h: usize,
-) -> Result<(), NoMemory>
-    requires within { h < length steps.now }
-    requires room { length steps.now < 2 ^ 32 }
-    requires pass { IsMarkPass steps.now returning.now entry marking.old.marks.items marking.old.functions.items marking.old.numbers.items
-        marking.old.queue.items }
-    requires reached { ReachedAt steps.now returning.now entry h h }
-    ensures pass { OnOk result (IsMarkPass steps.now returning.now entry marking.new.marks.items marking.new.functions.items
-        marking.new.numbers.items marking.new.queue.items) }
+fn call(program: &Program<'_>, marking: &mut Marking, h: usize) -> Result<(), NoMemory>
+    requires within { h < length program.now.steps.now }
+    requires room { length program.now.steps.now < 2 ^ 32 }
+    requires pass { IsMarkPass program.now.steps.now program.now.returning.now program.now.entry marking.old.marks.items
+        marking.old.functions.items marking.old.numbers.items marking.old.queue.items }
+    requires reached { ReachedAt program.now.steps.now program.now.returning.now program.now.entry h h }
+    ensures pass { OnOk result (IsMarkPass program.now.steps.now program.now.returning.now program.now.entry marking.new.marks.items
+        marking.new.functions.items marking.new.numbers.items marking.new.queue.items) }
     ensures grows { OnOk result (MarksGrow marking.old.marks.items marking.old.numbers.items marking.old.queue.items
         marking.new.marks.items marking.new.numbers.items marking.new.queue.items) }
     ensures covered { OnOk result (Covers (mark_at marking.new.marks.items h) h) }
@@ -199,66 +188,59 @@ fn call(
     ensures added { OnOk result (function_number marking.old.numbers.items h ≡ None →
         function_number marking.new.numbers.items h ≡ Some (length marking.old.functions.items)) }
 {
-    number(steps, returning, entry, marking, h)?;
-    reach(steps, returning, entry, marking, h, Mark::Owner(h))?;
+    number(program, marking, h)?;
+    reach(program, marking, h, Mark::Owner(h))?;
     Ok(())
 }
 
 // Calls a word of the text.
 fn call_some(
-    steps: &[Step],
-    returning: &[bool],
-    entry: usize,
+    program: &Program<'_>,
     marking: &mut Marking,
     word: Option<usize>,
 ) -> Result<(), NoMemory>
-    requires room { length steps.now < 2 ^ 32 }
-    requires pass { IsMarkPass steps.now returning.now entry marking.old.marks.items marking.old.functions.items marking.old.numbers.items
-        marking.old.queue.items }
-    requires reached { (h : ℕ) → word ≡ Some h → h < length steps.now → ReachedAt steps.now returning.now entry h h }
-    ensures pass { OnOk result (IsMarkPass steps.now returning.now entry marking.new.marks.items marking.new.functions.items
-        marking.new.numbers.items marking.new.queue.items) }
+    requires room { length program.now.steps.now < 2 ^ 32 }
+    requires pass { IsMarkPass program.now.steps.now program.now.returning.now program.now.entry marking.old.marks.items
+        marking.old.functions.items marking.old.numbers.items marking.old.queue.items }
+    requires reached { (h : ℕ) → word ≡ Some h → h < length program.now.steps.now → ReachedAt program.now.steps.now
+        program.now.returning.now program.now.entry h h }
+    ensures pass { OnOk result (IsMarkPass program.now.steps.now program.now.returning.now program.now.entry marking.new.marks.items
+        marking.new.functions.items marking.new.numbers.items marking.new.queue.items) }
     ensures grows { OnOk result (MarksGrow marking.old.marks.items marking.old.numbers.items marking.old.queue.items
         marking.new.marks.items marking.new.numbers.items marking.new.queue.items) }
-    ensures called { OnOk result ((h : ℕ) → word ≡ Some h → h < length steps.now → Covers (mark_at marking.new.marks.items h) h ×
-        ((i : ℕ) × (function_number marking.new.numbers.items h ≡ Some i))) }
+    ensures called { OnOk result ((h : ℕ) → word ≡ Some h → h < length program.now.steps.now → Covers (mark_at marking.new.marks.items h)
+        h × ((i : ℕ) × (function_number marking.new.numbers.items h ≡ Some i))) }
 {
     if let Some(h) = word {
-        if h < steps.len() {
-            call(steps, returning, entry, marking, h)?;
+        if h < program.steps.len() {
+            call(program, marking, h)?;
         }
     }
     Ok(())
 }
 
 // Takes the functions of a word to the words where it goes on.
-fn go_on(
-    steps: &[Step],
-    returning: &[bool],
-    entry: usize,
-    marking: &mut Marking,
-    u: usize,
-) -> Result<(), NoMemory>
-    requires within { u < length steps.now }
-    requires room { length steps.now < 2 ^ 32 }
-    requires pass { IsMarkPass steps.now returning.now entry marking.old.marks.items marking.old.functions.items marking.old.numbers.items
-        marking.old.queue.items }
+fn go_on(program: &Program<'_>, marking: &mut Marking, u: usize) -> Result<(), NoMemory>
+    requires within { u < length program.now.steps.now }
+    requires room { length program.now.steps.now < 2 ^ 32 }
+    requires pass { IsMarkPass program.now.steps.now program.now.returning.now program.now.entry marking.old.marks.items
+        marking.old.functions.items marking.old.numbers.items marking.old.queue.items }
     requires covered { (f : ℕ) × Covers (mark_at marking.old.marks.items u) f }
-    ensures pass { OnOk result (IsMarkPass steps.now returning.now entry marking.new.marks.items marking.new.functions.items
-        marking.new.numbers.items marking.new.queue.items) }
+    ensures pass { OnOk result (IsMarkPass program.now.steps.now program.now.returning.now program.now.entry marking.new.marks.items
+        marking.new.functions.items marking.new.numbers.items marking.new.queue.items) }
     ensures grows { OnOk result (MarksGrow marking.old.marks.items marking.old.numbers.items marking.old.queue.items
         marking.new.marks.items marking.new.numbers.items marking.new.queue.items) }
-    ensures settled { OnOk result (IsMarkSettled steps.now returning.now marking.new.marks.items marking.new.numbers.items u ⊎
-        IsFrom marking.new.queue.items (length marking.old.queue.items) u) }
+    ensures settled { OnOk result (IsMarkSettled program.now.steps.now program.now.returning.now marking.new.marks.items
+        marking.new.numbers.items u ⊎ IsFrom marking.new.queue.items (length marking.old.queue.items) u) }
 {
     let mark = marking.marks[u];
-    let step = steps[u];
+    let step = program.steps[u];
     let callee = callee(step);
     let jump = jump(step);
-    let next = next_word(step, returning, u);
-    call_some(steps, returning, entry, marking, callee)?;
-    reach_some(steps, returning, entry, marking, jump, mark)?;
-    reach_some(steps, returning, entry, marking, next, mark)?;
+    let next = next_word(step, program.returning, u);
+    call_some(program, marking, callee)?;
+    reach_some(program, marking, jump, mark)?;
+    reach_some(program, marking, next, mark)?;
     Ok(())
 }
 
@@ -294,11 +276,16 @@ pub fn mark_words(
         numbers,
         queue: Vec::new(alloc),
     };
-    call(steps, returning, entry, &mut marking, entry)?;
+    let program = Program {
+        steps,
+        returning,
+        entry,
+    };
+    call(&program, &mut marking, entry)?;
     let mut done = 0;
     while done < marking.queue.len() {
         let u = marking.queue[done];
-        go_on(steps, returning, entry, &mut marking, u)?;
+        go_on(&program, &mut marking, u)?;
         done += 1;
     }
     Ok(marking)

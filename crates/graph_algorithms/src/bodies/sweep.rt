@@ -26,25 +26,31 @@ fn add_bits(inside: &[u64], found: &mut [u64], pending: &mut [bool], node: usize
     }
 }
 
+// Bits of loops at a node.
+#[derive(Clone, Copy)]
+struct NodeBits {
+    node: usize,
+    bits: u64,
+}
+
 /// Passes bits back over each edge to a node.
 fn pass_back(
     edges: &IncomingEdges<'_>,
     inside: &[u64],
     found: &mut [u64],
     pending: &mut [bool],
-    node: usize,
-    bits: u64,
+    passed: NodeBits,
 )
-    requires node { node < edges.now.count }
+    requires node { passed.node < edges.now.count }
     requires inside { length inside.now ≡ edges.now.count }
     requires found { length found.old ≡ edges.now.count }
     requires pending { length pending.old ≡ edges.now.count }
-    ensures gains { Gains (IsPassedBack edges.now inside.now bits node) found.old pending.old found.new pending.new }
-    ensures all { (v i : ℕ) → IsPassedBack edges.now inside.now bits node v i → IsFlagged found.new v i }
+    ensures gains { Gains (IsPassedBack edges.now inside.now passed.bits passed.node) found.old pending.old found.new pending.new }
+    ensures all { (v i : ℕ) → IsPassedBack edges.now inside.now passed.bits passed.node v i → IsFlagged found.new v i }
 {
-    let mut next = edges.last(node);
+    let mut next = edges.last(passed.node);
     while let Some(edge) = next {
-        add_bits(inside, found, pending, edges.source(edge), bits);
+        add_bits(inside, found, pending, edges.source(edge), passed.bits);
         next = edges.before(edge);
     }
 }
@@ -66,7 +72,11 @@ pub fn start_loops(
     ensures settled { AreBitsSettled edges.now inside.now found.new pending.new }
 {
     for (bit, one) in loops.iter().enumerate() {
-        pass_back(edges, inside, found, pending, one.header, 1 << bit);
+        let passed = NodeBits {
+            node: one.header,
+            bits: 1 << bit,
+        };
+        pass_back(edges, inside, found, pending, passed);
     }
 }
 
@@ -86,7 +96,7 @@ fn visit_node(
     if pending[node] {
         pending[node] = false;
         let bits = found[node];
-        pass_back(edges, inside, found, pending, node, bits);
+        pass_back(edges, inside, found, pending, NodeBits { node, bits });
     }
 }
 

@@ -8,6 +8,7 @@ ghost use Rattle.loop_tree.specs.Passes.{IsSmallGraph, AreGraphEdges, IsReady, A
 ghost use Rattle.loop_forest.specs.Noted.{HasBackEdge};
 
 use crate::natural::back_edges::loop_body;
+use crate::natural::extent::{LoopGroup, NotedLoops};
 use crate::natural::groups::check_group;
 use crate::natural::headers::number_of;
 use flow_graph::CodeGraph;
@@ -69,22 +70,21 @@ fn side_entry(
 pub fn check_entry(
     alloc: Global,
     search: &mut BodySearch<'_>,
-    graph: &CodeGraph,
-    notes: &LoopNotes,
-    headers: &[usize],
+    noted: &NotedLoops<'_>,
     k: usize,
 ) -> Result<(), Stop>
-    requires ready { IsReady graph.now search.old notes.now headers.now }
-    requires within { k < length notes.now }
-    ensures entry { AnswersBy (λ x. x) result (IsEntryTested graph.now notes.now k) }
+    requires ready { IsReady noted.now.graph.now search.old noted.now.notes.now noted.now.headers.now }
+    requires within { k < length noted.now.notes.now }
+    ensures entry { AnswersBy (λ x. x) result (IsEntryTested noted.now.graph.now noted.now.notes.now k) }
     ensures same { search.new ≡ search.old }
 {
-    let body = loop_body(alloc, search, graph, notes.note(k), headers[k])?;
-    match side_entry(search, graph, headers[k], &body) {
+    let header = noted.headers[k];
+    let body = loop_body(alloc, search, noted.graph, noted.notes.note(k), header)?;
+    match side_entry(search, noted.graph, header, &body) {
         Some((from, to)) => Err(Stop::Refused(Refusal::SideEntry(
             number_of(k),
-            graph.node(from),
-            graph.node(to),
+            noted.graph.node(from),
+            noted.graph.node(to),
         ))),
         None => Ok(()),
     }
@@ -103,6 +103,11 @@ pub fn check_entries(
     ensures entries { AnswersBy (λ depths. depths.items) result (AreEntriesTested graph.now notes.now) }
     ensures same { search.new ≡ search.old }
 {
+    let noted = NotedLoops {
+        graph,
+        notes,
+        headers,
+    };
     let mut depths = vec![in alloc; 0; graph.node_count()]?;
     let mut first = 0;
     while first < notes.count() {
@@ -110,12 +115,9 @@ pub fn check_entries(
         check_group(
             alloc,
             search,
-            graph,
-            notes,
-            headers,
+            &noted,
             &mut depths,
-            first,
-            last,
+            LoopGroup { first, last },
         )?;
         first = last;
     }

@@ -53,25 +53,38 @@ pub fn extent_of(
     Ok(extent)
 }
 
-/// The loops from one number up to another, which is left out, with their extents.
+/// The loops of a program's notes, with the nodes of their headers in its graph, by number.
+#[derive(Clone, Copy)]
+pub struct NotedLoops<'a> {
+    pub graph: &'a CodeGraph,
+    pub notes: &'a LoopNotes,
+    pub headers: &'a [usize],
+}
+
+/// The loops from one number up to another, which is left out.
+#[derive(Clone, Copy)]
+pub struct LoopGroup {
+    pub first: usize,
+    pub last: usize,
+}
+
+/// The loops of a group, with their extents.
 pub fn group_extents(
     alloc: Global,
-    graph: &CodeGraph,
-    notes: &LoopNotes,
-    headers: &[usize],
-    first: usize,
-    last: usize,
+    noted: &NotedLoops<'_>,
+    numbers: LoopGroup,
 ) -> Result<Vec<LoopExtent>, NoMemory>
-    requires graph { IsSmallGraph graph.now }
-    requires headers { AreHeaderNumbers graph.now notes.now headers.now }
-    requires order { first ≤ last }
-    requires within { last ≤ length notes.now }
-    ensures { IfOk result (λ loops. AreExtents graph.now notes.now headers.now first last loops.items) }
+    requires graph { IsSmallGraph noted.now.graph.now }
+    requires headers { AreHeaderNumbers noted.now.graph.now noted.now.notes.now noted.now.headers.now }
+    requires order { numbers.first ≤ numbers.last }
+    requires within { numbers.last ≤ length noted.now.notes.now }
+    ensures { IfOk result (λ loops. AreExtents noted.now.graph.now noted.now.notes.now noted.now.headers.now numbers.first numbers.last
+        loops.items) }
 {
     let mut loops = Vec::new(alloc);
-    for k in first..last {
-        let header = headers[k];
-        let ranges = extent_of(alloc, graph, notes.note(k), header)?;
+    for k in numbers.first..numbers.last {
+        let header = noted.headers[k];
+        let ranges = extent_of(alloc, noted.graph, noted.notes.note(k), header)?;
         loops.push(LoopExtent { header, ranges })?;
     }
     Ok(loops)

@@ -6,10 +6,9 @@ ghost use Rattle.loop_forest.specs.Noted.{HasBackEdge};
 ghost use Rattle.loop_tree.specs.Passes.{IsSmallGraph, IsReady, IsEnteredBit, AreEnteredBelow, IsGroupEntered};
 
 use crate::natural::entries::{check_entry, entry_of};
-use crate::natural::extent::group_extents;
+use crate::natural::extent::{LoopGroup, NotedLoops, group_extents};
 use flow_graph::CodeGraph;
 use graph_algorithms::{BodySearch, GroupBodies, has_bit};
-use loop_file::LoopNotes;
 use scale_base::Stop;
 use std::alloc::Global;
 
@@ -43,28 +42,25 @@ fn add_group(depths: &mut [usize], bodies: &[u64])
 pub fn check_group(
     alloc: Global,
     search: &mut BodySearch<'_>,
-    graph: &CodeGraph,
-    notes: &LoopNotes,
-    headers: &[usize],
+    noted: &NotedLoops<'_>,
     depths: &mut [usize],
-    first: usize,
-    last: usize,
+    numbers: LoopGroup,
 ) -> Result<(), Stop>
-    requires ready { IsReady graph.now search.old notes.now headers.now }
-    requires back_edges { (k : ℕ) → k < length notes.now → HasBackEdge graph.now notes.now k }
-    requires order { first ≤ last }
-    requires few { last ≤ first + 64 }
-    requires within { last ≤ length notes.now }
-    requires entered { AreEnteredBelow graph.now notes.now first depths.old }
-    ensures group { AnswersBy (λ x. x) result (IsGroupEntered graph.now notes.now last depths.new) }
+    requires ready { IsReady noted.now.graph.now search.old noted.now.notes.now noted.now.headers.now }
+    requires back_edges { (k : ℕ) → k < length noted.now.notes.now → HasBackEdge noted.now.graph.now noted.now.notes.now k }
+    requires order { numbers.first ≤ numbers.last }
+    requires few { numbers.last ≤ numbers.first + 64 }
+    requires within { numbers.last ≤ length noted.now.notes.now }
+    requires entered { AreEnteredBelow noted.now.graph.now noted.now.notes.now numbers.first depths.old }
+    ensures group { AnswersBy (λ x. x) result (IsGroupEntered noted.now.graph.now noted.now.notes.now numbers.last depths.new) }
     ensures size { length depths.new ≡ length depths.old }
     ensures same { search.new ≡ search.old }
 {
-    let loops = group_extents(alloc, graph, notes, headers, first, last)?;
+    let loops = group_extents(alloc, noted, numbers)?;
     let group = search.group(alloc, &loops)?;
-    for k in first..last {
-        if is_entered(graph, &group, headers[k], k - first) {
-            check_entry(alloc, search, graph, notes, headers, k)?;
+    for k in numbers.first..numbers.last {
+        if is_entered(noted.graph, &group, noted.headers[k], k - numbers.first) {
+            check_entry(alloc, search, noted, k)?;
         }
     }
     add_group(depths, &group.bodies);

@@ -8,7 +8,7 @@ use Rattle.image_lower.proofs.trees.+tree.Goals as goal
 pub returns-then-are_alike-clause-code : goal.returns-then-are_alike-clause-code
 returns-then-are_alike-clause-code n c =
     let some = c.if-bits-eq0.false in
-    rw (tree_alike c.args.rs c.args.bits c.args.shifted c.args.at c.args.targets.now (omega (arith, some)) (sym c.are_alike.ensures ∙ c.if-are_alike.true)) c.tree.ensures.code
+    rw (tree_alike c.args.rs c.args.left.bits c.args.left.shifted c.args.at c.args.targets.now (omega (arith, some)) (sym c.are_alike.ensures ∙ c.if-are_alike.true)) c.tree.ensures.code
 
 pub tree-requires-2 : goal.tree-requires-2
 tree-requires-2 n c =
@@ -17,8 +17,8 @@ tree-requires-2 n c =
     let low = c.requires.bits in
     let room = c.requires.at in
     let few = c.requires.few in
-    let p = parts (c.args.bits - 1) c.args.targets.now (sym c.are_alike.ensures ∙ c.if-are_alike.false) in
-    let w : length c.deref.result.now ≡ length (filter (lacks_bit (c.args.bits - 1)) c.args.targets.now) = ap (λ (xs : List ℕ). length xs) (c.deref.ensures.value ∙ c.in_ok-without.ensures) in
+    let p = parts (c.args.left.bits - 1) c.args.targets.now (sym c.are_alike.ensures ∙ c.if-are_alike.false) in
+    let w : length c.deref.result.now ≡ length (filter (lacks_bit (c.args.left.bits - 1)) c.args.targets.now) = ap (λ (xs : List ℕ). length xs) (c.deref.ensures.value ∙ c.in_ok-without.ensures) in
     let a = p.without in
     let b = p.having in
     let d = p.whole in
@@ -31,9 +31,9 @@ tree-requires-3 n c =
     let low = c.requires.bits in
     let room = c.requires.at in
     let few = c.requires.few in
-    let p = parts (c.args.bits - 1) c.args.targets.now (sym c.are_alike.ensures ∙ c.if-are_alike.false) in
-    let w : length c.deref.result.now ≡ length (filter (lacks_bit (c.args.bits - 1)) c.args.targets.now) = ap (λ (xs : List ℕ). length xs) (c.deref.ensures.value ∙ c.in_ok-without.ensures) in
-    let v : length c.deref-2.result.now ≡ length (filter (has_bit (c.args.bits - 1)) c.args.targets.now) = ap (λ (xs : List ℕ). length xs) (c.deref-2.ensures.value ∙ c.in_ok-with.ensures) in
+    let p = parts (c.args.left.bits - 1) c.args.targets.now (sym c.are_alike.ensures ∙ c.if-are_alike.false) in
+    let w : length c.deref.result.now ≡ length (filter (lacks_bit (c.args.left.bits - 1)) c.args.targets.now) = ap (λ (xs : List ℕ). length xs) (c.deref.ensures.value ∙ c.in_ok-without.ensures) in
+    let v : length c.deref-2.result.now ≡ length (filter (has_bit (c.args.left.bits - 1)) c.args.targets.now) = ap (λ (xs : List ℕ). length xs) (c.deref-2.ensures.value ∙ c.in_ok-with.ensures) in
     let a = p.without in
     let b = p.having in
     let d = p.whole in
@@ -44,8 +44,8 @@ tree-requires-3 n c =
 pub fork-requires-clause-short : goal.fork-requires-clause-short
 fork-requires-clause-short n c =
     let few = c.requires.few in
-    let p = parts (c.args.bits - 1) c.args.targets.now (sym c.are_alike.ensures ∙ c.if-are_alike.false) in
-    let w : length c.deref.result.now ≡ length (filter (lacks_bit (c.args.bits - 1)) c.args.targets.now) = ap (λ (xs : List ℕ). length xs) (c.deref.ensures.value ∙ c.in_ok-without.ensures) in
+    let p = parts (c.args.left.bits - 1) c.args.targets.now (sym c.are_alike.ensures ∙ c.if-are_alike.false) in
+    let w : length c.deref.result.now ≡ length (filter (lacks_bit (c.args.left.bits - 1)) c.args.targets.now) = ap (λ (xs : List ℕ). length xs) (c.deref.ensures.value ∙ c.in_ok-without.ensures) in
     let f : length c.deref-3.result.now ≡ length c.in_ok-first.first.items = ap (λ (xs : List Instr). length xs) c.deref-3.ensures.value in
     let b = p.having in
     let d = p.whole in
@@ -55,11 +55,11 @@ fork-requires-clause-short n c =
 pub returns-clause-code : goal.returns-clause-code
 returns-clause-code n c =
     let some = c.if-bits-eq0.false in
-    let b = c.args.bits - 1 in
+    let b = c.args.left.bits - 1 in
     let l = c.len.ensures in
     let f : length c.deref-3.result.now ≡ length c.in_ok-first.first.items = ap (λ (xs : List Instr). length xs) c.deref-3.ensures.value in
     let s = c.saturating_sub.ensures in
-    rw (tree_forks c.args.rs c.args.bits c.args.shifted c.saturating_sub.result c.args.at (c.args.at + 8 + 4 * c.len.result) c.args.targets.now c.deref-3.result.now c.deref-4.result.now
+    rw (tree_forks c.args.rs c.args.left.bits c.args.left.shifted c.saturating_sub.result c.args.at (c.args.at + 8 + 4 * c.len.result) c.args.targets.now c.deref-3.result.now c.deref-4.result.now
     (omega (arith, some)) (sym c.are_alike.ensures ∙ c.if-are_alike.false) (omega (arith, s))
     (c.deref-3.ensures.value ∙ c.in_ok-first.ensures.code ∙ ap (λ (xs : List ℕ). tree c.args.rs b (31 - b) (c.args.at + 8) xs) (c.deref.ensures.value ∙ c.in_ok-without.ensures))
     (omega (arith, l, f))
@@ -68,9 +68,9 @@ returns-clause-code n c =
 
 pub returns-clause-short : goal.returns-clause-short
 returns-clause-short n c =
-    let p = parts (c.args.bits - 1) c.args.targets.now (sym c.are_alike.ensures ∙ c.if-are_alike.false) in
-    let w : length c.deref.result.now ≡ length (filter (lacks_bit (c.args.bits - 1)) c.args.targets.now) = ap (λ (xs : List ℕ). length xs) (c.deref.ensures.value ∙ c.in_ok-without.ensures) in
-    let v : length c.deref-2.result.now ≡ length (filter (has_bit (c.args.bits - 1)) c.args.targets.now) = ap (λ (xs : List ℕ). length xs) (c.deref-2.ensures.value ∙ c.in_ok-with.ensures) in
+    let p = parts (c.args.left.bits - 1) c.args.targets.now (sym c.are_alike.ensures ∙ c.if-are_alike.false) in
+    let w : length c.deref.result.now ≡ length (filter (lacks_bit (c.args.left.bits - 1)) c.args.targets.now) = ap (λ (xs : List ℕ). length xs) (c.deref.ensures.value ∙ c.in_ok-without.ensures) in
+    let v : length c.deref-2.result.now ≡ length (filter (has_bit (c.args.left.bits - 1)) c.args.targets.now) = ap (λ (xs : List ℕ). length xs) (c.deref-2.ensures.value ∙ c.in_ok-with.ensures) in
     let f : length c.deref-3.result.now ≡ length c.in_ok-first.first.items = ap (λ (xs : List Instr). length xs) c.deref-3.ensures.value in
     let g : length c.deref-4.result.now ≡ length c.in_ok-second.second.items = ap (λ (xs : List Instr). length xs) c.deref-4.ensures.value in
     let d = p.whole in

@@ -1,4 +1,4 @@
 use Rattle.image_lower.proofs.trees.+tree.Given as goal
 
 abbrev pub decreases-tree : goal.decreases-tree
-decreases-tree l = l.bits
+decreases-tree l = l.left.bits

@@ -19,4 +19,4 @@ returns-in-Some-clause-watched c =
     let local : x.moved ≡ Local = subst (λ (o : Option ℕ). IfSome o (λ k. x.moved ≡ Local)) c.in-Some.is c.lone_loop.ensures.moved in
     let same : returns_after rs x ≡ Some rs = ap (λ (m : Move). returns_by m rs x) local in
     c.watch_turn.ensures.watched rs shallow
-    ∙ sym (ap (watch_returns (record { notes = c.args.notes.now; returns = rs; counts = c.args.counts.now.items; kept = kinds.Kept }) x) same)
+    ∙ sym (ap (watch_returns (record { notes = c.args.rules.now.notes.now; returns = rs; counts = c.args.counts.now.items; kept = kinds.Kept }) x) same)

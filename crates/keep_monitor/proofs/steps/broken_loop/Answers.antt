@@ -10,19 +10,19 @@ use Rattle.keep_monitor.proofs.steps.broken_loop.Goals as goal
 
 pub returns-in-None : goal.returns-in-None
 returns-in-None c =
-    let found : loop_broken c.args.notes.now (steps.counts_after_step c.args.notes.now c.args.counts.now c.args.source c.args.step.now.next) c.args.step.now ≡ None =
-    broken_is c.args.notes.now c.args.counts.now c.args.source c.args.step.now ∙ ap (λ o. steps.lesser_loop o (steps.loop_left c.args.notes.now c.args.counts.now c.args.step.now)) (sym c.first_over-over.ensures.over)
+    let found : loop_broken c.args.rules.now.notes.now (steps.counts_after_step c.args.rules.now.notes.now c.args.counts.now c.args.source c.args.arrival.now.step.now.next) c.args.arrival.now.step.now ≡ None =
+    broken_is c.args.rules.now.notes.now c.args.counts.now c.args.source c.args.arrival.now.step.now ∙ ap (λ o. steps.lesser_loop o (steps.loop_left c.args.rules.now.notes.now c.args.counts.now c.args.arrival.now.step.now)) (sym c.first_over-over.ensures.over)
     ∙ ap (λ o. steps.lesser_loop c.first_over-over.result o) (sym c.first_left-left.ensures.left) ∙ sym c.lesser.ensures.lesser ∙ c.in-None.is in
-    sym (ap (option_map (λ k. BrokeBound (k + 1) (steps.counts_after_step c.args.notes.now c.args.counts.now c.args.source c.args.step.now.next k))) found)
+    sym (ap (option_map (λ k. BrokeBound (k + 1) (steps.counts_after_step c.args.rules.now.notes.now c.args.counts.now c.args.source c.args.arrival.now.step.now.next k))) found)
 
 pub returns-in-Some : goal.returns-in-Some
 returns-in-Some c =
     let k : ℕ = c.in-Some.k in
-    let found : loop_broken c.args.notes.now (steps.counts_after_step c.args.notes.now c.args.counts.now c.args.source c.args.step.now.next) c.args.step.now ≡ Some k =
-    broken_is c.args.notes.now c.args.counts.now c.args.source c.args.step.now ∙ ap (λ o. steps.lesser_loop o (steps.loop_left c.args.notes.now c.args.counts.now c.args.step.now)) (sym c.first_over-over.ensures.over)
+    let found : loop_broken c.args.rules.now.notes.now (steps.counts_after_step c.args.rules.now.notes.now c.args.counts.now c.args.source c.args.arrival.now.step.now.next) c.args.arrival.now.step.now ≡ Some k =
+    broken_is c.args.rules.now.notes.now c.args.counts.now c.args.source c.args.arrival.now.step.now ∙ ap (λ o. steps.lesser_loop o (steps.loop_left c.args.rules.now.notes.now c.args.counts.now c.args.arrival.now.step.now)) (sym c.first_over-over.ensures.over)
     ∙ ap (λ o. steps.lesser_loop c.first_over-over.result o) (sym c.first_left-left.ensures.left) ∙ sym c.lesser.ensures.lesser ∙ c.in-Some.is in
-    let note : note_at c.args.notes.now k ≡ c.note.result.now = get_or_from_slice_get c.args.notes.now k c.note.result.now _ c.note.ensures.note in
-    let count : steps.counts_after_step c.args.notes.now c.args.counts.now c.args.source c.args.step.now.next k ≡ c.count_after.result =
-    count_is c.args.notes.now c.args.counts.now c.args.source c.args.step.now.next k
-    ∙ ap (λ (n : LoopNote). cond (c.args.step.now.next == n.header) (steps.count_then n c.args.source (slice_index c.args.counts.now k)) (slice_index c.args.counts.now k)) note ∙ sym c.count_after.ensures in
-    sym (ap (option_map (λ k. BrokeBound (k + 1) (steps.counts_after_step c.args.notes.now c.args.counts.now c.args.source c.args.step.now.next k))) found ∙ ap (λ n. Some (BrokeBound (k + 1) n)) count)
+    let note : note_at c.args.rules.now.notes.now k ≡ c.note.result.now = get_or_from_slice_get c.args.rules.now.notes.now k c.note.result.now _ c.note.ensures.note in
+    let count : steps.counts_after_step c.args.rules.now.notes.now c.args.counts.now c.args.source c.args.arrival.now.step.now.next k ≡ c.count_after.result =
+    count_is c.args.rules.now.notes.now c.args.counts.now c.args.source c.args.arrival.now.step.now.next k
+    ∙ ap (λ (n : LoopNote). cond (c.args.arrival.now.step.now.next == n.header) (steps.count_then n c.args.source (slice_index c.args.counts.now k)) (slice_index c.args.counts.now k)) note ∙ sym c.count_after.ensures in
+    sym (ap (option_map (λ k. BrokeBound (k + 1) (steps.counts_after_step c.args.rules.now.notes.now c.args.counts.now c.args.source c.args.arrival.now.step.now.next k))) found ∙ ap (λ n. Some (BrokeBound (k + 1) n)) count)

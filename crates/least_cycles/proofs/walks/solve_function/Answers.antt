@@ -19,10 +19,10 @@ price_function-requires-clause-tables c =
     let old_x = c.args.found.now.walks.exits.items in
     record {
       flow = c.requires.program.flow;
-      own = ap length c.deref-2.ensures.value ∙ c.requires.program.plan.own_size;
-      low = subst (λ (own : List ℕ). (e : ℕ) → number_in_place own e ≤ 2 ^ 48) (sym c.deref-2.ensures.value) c.requires.program.plan.own_low;
-      tables = subst (λ (r : List (Option ℕ)). AreSmallTables v r c.deref-4.result.now) (sym c.deref-3.ensures.value)
-          (subst (λ (x : List (Option ℕ)). AreSmallTables v old_r x) (sym c.deref-4.ensures.value)
+      own = ap length c.deref.ensures.value ∙ c.requires.program.plan.own_size;
+      low = subst (λ (own : List ℕ). (e : ℕ) → number_in_place own e ≤ 2 ^ 48) (sym c.deref.ensures.value) c.requires.program.plan.own_low;
+      tables = subst (λ (r : List (Option ℕ)). AreSmallTables v r c.deref-3.result.now) (sym c.deref-2.ensures.value)
+          (subst (λ (x : List (Option ℕ)). AreSmallTables v old_r x) (sym c.deref-3.ensures.value)
           (tables_small v (own_by v c.args.program.now.tree.now (number_in_place c.args.program.now.plan.now.own.items) k.0) k.1.limit (IsBefore v c.args.i) old_r old_x k.1.limits (c.requires.found.walks k.0 k.1)));
     }
 
@@ -34,9 +34,9 @@ charge_loops-requires-clause-priced c =
       tree = c.requires.program.tree;
       function = subst (λ (order : List ℕ). number_in_place order c.args.i < length v.code.functions) (sym c.call_order.ensures)
           (c.requires.program.flow.order.within c.args.i (number_in_place v.order c.args.i) (slice_get-get_or v.order c.args.i 0 c.requires.place));
-      costs = ap length c.deref-6.ensures.value ∙ c.price_function.ensures.costs_size;
-      lasts = ap length c.deref-7.ensures.value ∙ c.price_function.ensures.lasts_size;
-      low = subst (λ (costs : List ℕ). (e : ℕ) → number_in_place costs e ≤ 2 ^ 49) (sym c.deref-6.ensures.value) c.price_function.ensures.within;
+      costs = ap length c.deref-5.ensures.value ∙ c.price_function.ensures.costs_size;
+      lasts = ap length c.deref-6.ensures.value ∙ c.price_function.ensures.lasts_size;
+      low = subst (λ (costs : List ℕ). (e : ℕ) → number_in_place costs e ≤ 2 ^ 49) (sym c.deref-5.ensures.value) c.price_function.ensures.within;
     }
 
 pub charge_loops-requires-clause-known : goal.charge_loops-requires-clause-known
@@ -53,18 +53,18 @@ charge_loops-requires-clause-known c =
     let costs = c.price_function.new.costs.items in
     let lasts = c.price_function.new.lasts.items in
     let priced : ArePriced v w old_r old_x (IsFromFirst v bucket (length bucket)) costs lasts =
-    subst (λ (own : List ℕ). ArePriced v (number_in_place own) old_r old_x (IsFromFirst v bucket (length bucket)) costs lasts) c.deref-2.ensures.value
-    (subst (λ (b : List ℕ). ArePriced v (number_in_place c.deref-2.result.now) old_r old_x (IsFromFirst v b (length b)) costs lasts) c.deref-5.ensures.value
-    (subst (λ (x : List (Option ℕ)). ArePriced v (number_in_place c.deref-2.result.now) old_r x (IsFromFirst v c.deref-5.result.now (length c.deref-5.result.now)) costs lasts) c.deref-4.ensures.value
-    (subst (λ (r : List (Option ℕ)). ArePriced v (number_in_place c.deref-2.result.now) r c.deref-4.result.now (IsFromFirst v c.deref-5.result.now (length c.deref-5.result.now)) costs lasts) c.deref-3.ensures.value c.price_function.ensures))) in
+    subst (λ (own : List ℕ). ArePriced v (number_in_place own) old_r old_x (IsFromFirst v bucket (length bucket)) costs lasts) c.deref.ensures.value
+    (subst (λ (b : List ℕ). ArePriced v (number_in_place c.deref.result.now) old_r old_x (IsFromFirst v b (length b)) costs lasts) c.deref-4.ensures.value
+    (subst (λ (x : List (Option ℕ)). ArePriced v (number_in_place c.deref.result.now) old_r x (IsFromFirst v c.deref-4.result.now (length c.deref-4.result.now)) costs lasts) c.deref-3.ensures.value
+    (subst (λ (r : List (Option ℕ)). ArePriced v (number_in_place c.deref.result.now) r c.deref-3.result.now (IsFromFirst v c.deref-4.result.now (length c.deref-4.result.now)) costs lasts) c.deref-2.ensures.value c.price_function.ensures))) in
     let found : ArePricedAt v w k.0 f costs lasts = priced_at v c.args.program.now.tree.now w k.0 k.1 c.args.i old_r old_x (c.requires.found.walks k.0 k.1) f bucket costs lasts at is priced in (
       w,
       k.0,
       record {
         charging = k.1;
-        priced = subst (λ (order : List ℕ). ArePricedAt v w k.0 (number_in_place order c.args.i) c.deref-6.result.now c.deref-7.result.now) (sym c.call_order.ensures)
-            (subst (λ (x : List ℕ). ArePricedAt v w k.0 f x c.deref-7.result.now) (sym c.deref-6.ensures.value)
-            (subst (λ (x : List Bool). ArePricedAt v w k.0 f costs x) (sym c.deref-7.ensures.value) found));
+        priced = subst (λ (order : List ℕ). ArePricedAt v w k.0 (number_in_place order c.args.i) c.deref-5.result.now c.deref-6.result.now) (sym c.call_order.ensures)
+            (subst (λ (x : List ℕ). ArePricedAt v w k.0 f x c.deref-6.result.now) (sym c.deref-5.ensures.value)
+            (subst (λ (x : List Bool). ArePricedAt v w k.0 f costs x) (sym c.deref-6.ensures.value) found));
       },
     )
 
@@ -157,18 +157,18 @@ returns-clause-found c = record {
       let charges = c.charge_loops.new.charges in
       let are = c.requires.found.walks n charging in
       let priced : ArePriced v w old_r old_x (IsFromFirst v bucket (length bucket)) costs lasts =
-      subst (λ (own : List ℕ). ArePriced v (number_in_place own) old_r old_x (IsFromFirst v bucket (length bucket)) costs lasts) c.deref-2.ensures.value
-      (subst (λ (b : List ℕ). ArePriced v (number_in_place c.deref-2.result.now) old_r old_x (IsFromFirst v b (length b)) costs lasts) c.deref-5.ensures.value
-      (subst (λ (x : List (Option ℕ)). ArePriced v (number_in_place c.deref-2.result.now) old_r x (IsFromFirst v c.deref-5.result.now (length c.deref-5.result.now)) costs lasts) c.deref-4.ensures.value
-      (subst (λ (r : List (Option ℕ)). ArePriced v (number_in_place c.deref-2.result.now) r c.deref-4.result.now (IsFromFirst v c.deref-5.result.now (length c.deref-5.result.now)) costs lasts) c.deref-3.ensures.value c.price_function.ensures))) in
+      subst (λ (own : List ℕ). ArePriced v (number_in_place own) old_r old_x (IsFromFirst v bucket (length bucket)) costs lasts) c.deref.ensures.value
+      (subst (λ (b : List ℕ). ArePriced v (number_in_place c.deref.result.now) old_r old_x (IsFromFirst v b (length b)) costs lasts) c.deref-4.ensures.value
+      (subst (λ (x : List (Option ℕ)). ArePriced v (number_in_place c.deref.result.now) old_r x (IsFromFirst v c.deref-4.result.now (length c.deref-4.result.now)) costs lasts) c.deref-3.ensures.value
+      (subst (λ (r : List (Option ℕ)). ArePriced v (number_in_place c.deref.result.now) r c.deref-3.result.now (IsFromFirst v c.deref-4.result.now (length c.deref-4.result.now)) costs lasts) c.deref-2.ensures.value c.price_function.ensures))) in
       let found : ArePricedAt v w n f costs lasts = priced_at v t w n charging c.args.i old_r old_x are f bucket costs lasts at is priced in
       let paid : AreChargedTo v t n (λ k. loop_owner v t k ≡ f) charges.found.items =
       subst (λ (order : List ℕ). AreChargedTo v t n (λ k. loop_owner v t k ≡ number_in_place order c.args.i) charges.found.items) c.call_order.ensures
       (c.in_ok-charge_loops.ensures.charged w n (record {
         charging = charging;
-        priced = subst (λ (order : List ℕ). ArePricedAt v w n (number_in_place order c.args.i) c.deref-6.result.now c.deref-7.result.now) (sym c.call_order.ensures)
-            (subst (λ (x : List ℕ). ArePricedAt v w n f x c.deref-7.result.now) (sym c.deref-6.ensures.value)
-            (subst (λ (x : List Bool). ArePricedAt v w n f costs x) (sym c.deref-7.ensures.value) found));
+        priced = subst (λ (order : List ℕ). ArePricedAt v w n (number_in_place order c.args.i) c.deref-5.result.now c.deref-6.result.now) (sym c.call_order.ensures)
+            (subst (λ (x : List ℕ). ArePricedAt v w n f x c.deref-6.result.now) (sym c.deref-5.ensures.value)
+            (subst (λ (x : List Bool). ArePricedAt v w n f costs x) (sym c.deref-6.ensures.value) found));
       })) in
       charged_next v t w n charging f c.args.i c.args.found.now.charges.found.items charges.found.items at (c.requires.found.charged n charging) paid
       (λ k kl other. c.in_ok-charge_loops.ensures.others k kl (λ same. other (same ∙ ap (λ (order : List ℕ). number_in_place order c.args.i) c.call_order.ensures)));
@@ -188,18 +188,18 @@ returns-clause-found c = record {
       let price = cost_with costs charges in
       let are = c.requires.found.walks n charging in
       let priced : ArePriced v w old_r old_x (IsFromFirst v bucket (length bucket)) costs lasts =
-      subst (λ (own : List ℕ). ArePriced v (number_in_place own) old_r old_x (IsFromFirst v bucket (length bucket)) costs lasts) c.deref-2.ensures.value
-      (subst (λ (b : List ℕ). ArePriced v (number_in_place c.deref-2.result.now) old_r old_x (IsFromFirst v b (length b)) costs lasts) c.deref-5.ensures.value
-      (subst (λ (x : List (Option ℕ)). ArePriced v (number_in_place c.deref-2.result.now) old_r x (IsFromFirst v c.deref-5.result.now (length c.deref-5.result.now)) costs lasts) c.deref-4.ensures.value
-      (subst (λ (r : List (Option ℕ)). ArePriced v (number_in_place c.deref-2.result.now) r c.deref-4.result.now (IsFromFirst v c.deref-5.result.now (length c.deref-5.result.now)) costs lasts) c.deref-3.ensures.value c.price_function.ensures))) in
+      subst (λ (own : List ℕ). ArePriced v (number_in_place own) old_r old_x (IsFromFirst v bucket (length bucket)) costs lasts) c.deref.ensures.value
+      (subst (λ (b : List ℕ). ArePriced v (number_in_place c.deref.result.now) old_r old_x (IsFromFirst v b (length b)) costs lasts) c.deref-4.ensures.value
+      (subst (λ (x : List (Option ℕ)). ArePriced v (number_in_place c.deref.result.now) old_r x (IsFromFirst v c.deref-4.result.now (length c.deref-4.result.now)) costs lasts) c.deref-3.ensures.value
+      (subst (λ (r : List (Option ℕ)). ArePriced v (number_in_place c.deref.result.now) r c.deref-3.result.now (IsFromFirst v c.deref-4.result.now (length c.deref-4.result.now)) costs lasts) c.deref-2.ensures.value c.price_function.ensures))) in
       let found : ArePricedAt v w n f costs lasts = priced_at v t w n charging c.args.i old_r old_x are f bucket costs lasts at is priced in
       let paid : AreChargedTo v t n (λ k. loop_owner v t k ≡ f) charges.found.items =
       subst (λ (order : List ℕ). AreChargedTo v t n (λ k. loop_owner v t k ≡ number_in_place order c.args.i) charges.found.items) c.call_order.ensures
       (c.in_ok-charge_loops.ensures.charged w n (record {
         charging = charging;
-        priced = subst (λ (order : List ℕ). ArePricedAt v w n (number_in_place order c.args.i) c.deref-6.result.now c.deref-7.result.now) (sym c.call_order.ensures)
-            (subst (λ (x : List ℕ). ArePricedAt v w n f x c.deref-7.result.now) (sym c.deref-6.ensures.value)
-            (subst (λ (x : List Bool). ArePricedAt v w n f costs x) (sym c.deref-7.ensures.value) found));
+        priced = subst (λ (order : List ℕ). ArePricedAt v w n (number_in_place order c.args.i) c.deref-5.result.now c.deref-6.result.now) (sym c.call_order.ensures)
+            (subst (λ (x : List ℕ). ArePricedAt v w n f x c.deref-6.result.now) (sym c.deref-5.ensures.value)
+            (subst (λ (x : List Bool). ArePricedAt v w n f costs x) (sym c.deref-6.ensures.value) found));
       })) in
       let found_r = c.in_ok-returns.returns.items in
       let found_x = c.in_ok-exits.exits.items in

@@ -26,10 +26,10 @@ of-requires c =
     let bs : bodies_of c.deref.result.now ≡ c.args.found.bodies = ap bodies_of c.deref.ensures.value ∙ ap (λ (t : LoopsView). t.bodies) c.found.view_is in
     let size : length c.in_ok-nesting.nesting.parent ≡ length c.args.found.bodies = c.in_ok-nesting.ensures.loops ∙ ap length bs in
     subst IsStoredTree
-    (same_view c.args.backs.items c.args.order.items c.in_ok-least_trips.least_trips.items c.args.found.headers c.found.inside.headers.items (bounds_in c.args.notes.now) c.in_ok-bounds.bounds.items (map (λ (note : LoopNote). note.counted) c.args.notes.now) c.in_ok-counted.counted.items
+    (same_view c.args.edges.backs.items c.args.edges.order.items c.in_ok-least_trips.least_trips.items c.args.found.headers c.found.inside.headers.items (bounds_in c.args.notes.now) c.in_ok-bounds.bounds.items (map (λ (note : LoopNote). note.counted) c.args.notes.now) c.in_ok-counted.counted.items
     c.args.found.bodies (bodies_of c.found.inside.bodies.items) c.in_ok-nesting.nesting.innermost c.into_parts-innermost.result.0.items c.in_ok-nesting.nesting.parent c.into_parts-innermost.result.1.items
     (sym (ap (λ (t : LoopsView). t.headers) c.found.view_is)) (sym c.in_ok-bounds.ensures.bounds) (sym c.in_ok-counted.ensures) (sym (ap (λ (t : LoopsView). t.bodies) c.found.view_is)) (sym c.into_parts-innermost.ensures.innermost) (sym c.into_parts-innermost.ensures.parent))
-    (stored c.args.graph.now c.args.notes.now c.args.found c.in_ok-least_trips.least_trips.items c.args.backs.items c.in_ok-nesting.nesting.innermost c.in_ok-nesting.nesting.parent c.args.order.items c.bounds_of.ensures.in_range c.requires.loops c.in_ok-least_trips.ensures size)
+    (stored c.args.graph.now c.args.notes.now c.args.found c.in_ok-least_trips.least_trips.items c.args.edges.backs.items c.in_ok-nesting.nesting.innermost c.in_ok-nesting.nesting.parent c.args.edges.order.items c.bounds_of.ensures.in_range c.requires.loops c.in_ok-least_trips.ensures size)
 
 pub returns : goal.returns
 returns c =
@@ -40,7 +40,7 @@ returns c =
     (subst (λ xs. IsNesting c.args.found.bodies xs c.node_count.result c.in_ok-nesting.nesting) hs
     (subst (λ xs. IsNesting xs c.deref-2.result.now c.node_count.result c.in_ok-nesting.nesting) bs c.in_ok-nesting.ensures)) in
     subst (IsTreeOf c.args.graph.now c.args.notes.now)
-    (same_view c.args.backs.items c.args.order.items c.in_ok-least_trips.least_trips.items c.args.found.headers c.found.inside.headers.items (bounds_in c.args.notes.now) c.in_ok-bounds.bounds.items (map (λ (note : LoopNote). note.counted) c.args.notes.now) c.in_ok-counted.counted.items
+    (same_view c.args.edges.backs.items c.args.edges.order.items c.in_ok-least_trips.least_trips.items c.args.found.headers c.found.inside.headers.items (bounds_in c.args.notes.now) c.in_ok-bounds.bounds.items (map (λ (note : LoopNote). note.counted) c.args.notes.now) c.in_ok-counted.counted.items
     c.args.found.bodies (bodies_of c.found.inside.bodies.items) c.in_ok-nesting.nesting.innermost c.into_parts-innermost.result.0.items c.in_ok-nesting.nesting.parent c.into_parts-innermost.result.1.items
     (sym (ap (λ (t : LoopsView). t.headers) c.found.view_is)) (sym c.in_ok-bounds.ensures.bounds) (sym c.in_ok-counted.ensures) (sym (ap (λ (t : LoopsView). t.bodies) c.found.view_is)) (sym c.into_parts-innermost.ensures.innermost) (sym c.into_parts-innermost.ensures.parent) ∙ sym c.of.ensures)
-    (tree_of c.args.graph.now c.args.notes.now c.args.found c.in_ok-least_trips.least_trips.items c.args.backs.items c.in_ok-nesting.nesting.innermost c.in_ok-nesting.nesting.parent c.args.order.items c.requires.flow c.bounds_of.ensures.in_range c.requires.loops c.in_ok-least_trips.ensures c.requires.backs c.requires.order nesting)
+    (tree_of c.args.graph.now c.args.notes.now c.args.found c.in_ok-least_trips.least_trips.items c.args.edges.backs.items c.in_ok-nesting.nesting.innermost c.in_ok-nesting.nesting.parent c.args.edges.order.items c.requires.flow c.bounds_of.ensures.in_range c.requires.loops c.in_ok-least_trips.ensures c.requires.backs c.requires.order nesting)

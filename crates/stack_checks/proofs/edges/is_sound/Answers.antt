@@ -8,5 +8,6 @@ returns c so = record {
   returns = c.if-not-is_return_checked.ensures refl;
   back = c.if-not-is_back_checked.ensures refl;
   spared_calls = c.if-not-is_spared_called.ensures refl;
-  spares = c.is_sparing_checked.ensures so;
+  spares = c.if-not-is_sparing_checked.ensures refl;
+  cells = c.are_cells_kept.ensures so;
 }

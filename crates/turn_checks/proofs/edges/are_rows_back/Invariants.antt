@@ -6,4 +6,4 @@ use Rattle.turn_checks.specs.Turned.{at_of, cert}
 use Rattle.turn_checks.proofs.edges.are_rows_back.Given as goal
 
 abbrev pub invariant-loop-r : goal.invariant-loop-r
-invariant-loop-r l = (r : ℕ) → IsRegister r → r < l.r → IsRowBack (text_in l.case.claim.now) (values_in l.case.claim.now) (stacks_in l.case.claim.now) (cert l.case) (at_of l.case l.k) (at_of l.case l.h) r ((cert l.case).row (at_of l.case l.n) r)
+invariant-loop-r l = (r : ℕ) → IsRegister r → r < l.r → IsRowBack (text_in l.case.claim.now) (values_in l.case.claim.now) (stacks_in l.case.claim.now) (cert l.case) (at_of l.case l.call.from) (at_of l.case l.call.entry) r ((cert l.case).row (at_of l.case l.n) r)

@@ -1,15 +1,15 @@
 use Rattle.std.proofs.Common.{ℕ, refl, arith, subst}
 use Rattle.stack_tables.specs.Tables.{stacks_in, values_in}
-use Rattle.turn_laws.specs.Relating.{IsRowOver, Relation}
+use Rattle.turn_laws.specs.Relating.{IsRowOn, Relation}
 use Rattle.turn_checks.specs.Turned.{at_of, cert}
 use Rattle.turn_checks.proofs.Cases.{each_register, register_more}
 use Rattle.turn_checks.proofs.edges.are_rows_over.Goals as goal
 
 pub loop-r-preserved : goal.loop-r-preserved
-loop-r-preserved c = register_more (λ (x : ℕ). IsRowOver (values_in c.args.case.now.claim.now) (stacks_in c.args.case.now.claim.now) (cert c.args.case.now) (at_of c.args.case.now c.args.k) c.args.i x ((cert c.args.case.now).row (at_of c.args.case.now c.args.n) x))
+loop-r-preserved c = register_more (λ (x : ℕ). IsRowOn (values_in c.args.case.now.claim.now) (stacks_in c.args.case.now.claim.now) (cert c.args.case.now) (at_of c.args.case.now c.args.step.from) c.args.step.instr (at_of c.args.case.now c.args.step.to) x ((cert c.args.case.now).row (at_of c.args.case.now c.args.step.to) x))
     c.loop-r.r c.loop-r.invariant
-    (subst (λ (p : Relation). IsRowOver (values_in c.args.case.now.claim.now) (stacks_in c.args.case.now.claim.now) (cert c.args.case.now) (at_of c.args.case.now c.args.k) c.args.i c.loop-r.r p) c.row_at.ensures (c.if-not-is_row_over.ensures refl))
+    (subst (λ (p : Relation). IsRowOn (values_in c.args.case.now.claim.now) (stacks_in c.args.case.now.claim.now) (cert c.args.case.now) (at_of c.args.case.now c.args.step.from) c.args.step.instr (at_of c.args.case.now c.args.step.to) c.loop-r.r p) c.row_at.ensures (c.if-not-is_row_on.ensures refl))
 
 pub returns : goal.returns
-returns c so = each_register (λ (x : ℕ). IsRowOver (values_in c.args.case.now.claim.now) (stacks_in c.args.case.now.claim.now) (cert c.args.case.now) (at_of c.args.case.now c.args.k) c.args.i x ((cert c.args.case.now).row (at_of c.args.case.now c.args.n) x))
+returns c so = each_register (λ (x : ℕ). IsRowOn (values_in c.args.case.now.claim.now) (stacks_in c.args.case.now.claim.now) (cert c.args.case.now) (at_of c.args.case.now c.args.step.from) c.args.step.instr (at_of c.args.case.now c.args.step.to) x ((cert c.args.case.now).row (at_of c.args.case.now c.args.step.to) x))
     c.loop-r.r (let test = c.loop-r-test.false in omega (arith, test)) c.loop-r.invariant

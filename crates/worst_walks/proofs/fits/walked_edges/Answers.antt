@@ -8,6 +8,6 @@ pub returns : goal.returns
 returns c =
     let parts = rw c.in-Some.is at c.in_ok-taken.ensures in
     walked c.args.graph.now c.args.tree.now c.requires.tree.0 c.node_count-nodes.ensures.graph c.requires.tree.1 (bodies_of c.args.parts.now.paths.items) (bodies_of c.args.parts.now.turns.items)
-    c.args.calls.now c.args.entries.now c.in-Some.taken.items parts
-    (subst (λ (xs : List ℕ). AreCalled c.args.graph.now xs c.args.calls.now) c.deref-2.ensures.value (c.in_ok-called.ensures c.if-not-called.false))
-    (subst (λ (xs : List ℕ). AreEntered c.args.graph.now c.args.tree.now xs c.args.calls.now c.args.entries.now) c.deref-4.ensures.value (c.in_ok-entered.ensures c.if-not-entered.false))
+    c.args.times.now.calls.now c.args.times.now.entries.now c.in-Some.taken.items parts
+    (subst (λ (xs : List ℕ). AreCalled c.args.graph.now xs c.args.times.now.calls.now) c.deref-2.ensures.value (c.in_ok-called.ensures c.if-not-called.false))
+    (subst (λ (xs : List ℕ). AreEntered c.args.graph.now c.args.tree.now xs c.args.times.now.calls.now c.args.times.now.entries.now) c.deref-4.ensures.value (c.in_ok-entered.ensures c.if-not-entered.false))

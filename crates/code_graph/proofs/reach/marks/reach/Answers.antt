@@ -10,8 +10,8 @@ returns-in_ok-push-clause-pass c =
     let lt : c.args.k < length c.args.marking.now.marks.items = omega (arith, c.requires.pass.marks_size, c.requires.within) in
     let at : c.index-old.result.now ≡ mark_at c.args.marking.now.marks.items c.args.k = c.index-old.ensures ∙ mark_same c.args.marking.now.marks.items c.args.k c.index-old.result.now Unreached lt in
     let is : raised (mark_at c.args.marking.now.marks.items c.args.k) c.args.mark ≡ Some c.in-Some.new = ap (λ o. raised o c.args.mark) (sym at) ∙ sym c.raise.ensures ∙ c.in-Some.is in
-    subst (λ q. IsMarkPass c.args.steps.now c.args.returning.now c.args.entry (slice_set m.marks.items c.args.k c.in-Some.new) m.functions.items m.numbers.items q) (sym c.in_ok-push.ensures.items)
-    (reach_pass c.args.steps.now c.args.returning.now c.args.entry m.marks.items m.functions.items m.numbers.items m.queue.items c.requires.pass c.args.k c.args.mark c.in-Some.new c.requires.within c.requires.due is)
+    subst (λ q. IsMarkPass c.args.program.now.steps.now c.args.program.now.returning.now c.args.program.now.entry (slice_set m.marks.items c.args.k c.in-Some.new) m.functions.items m.numbers.items q) (sym c.in_ok-push.ensures.items)
+    (reach_pass c.args.program.now.steps.now c.args.program.now.returning.now c.args.program.now.entry m.marks.items m.functions.items m.numbers.items m.queue.items c.requires.pass c.args.k c.args.mark c.in-Some.new c.requires.within c.requires.due is)
 
 pub returns-in_ok-push-clause-grows : goal.returns-in_ok-push-clause-grows
 returns-in_ok-push-clause-grows c =
@@ -20,7 +20,7 @@ returns-in_ok-push-clause-grows c =
     let at : c.index-old.result.now ≡ mark_at c.args.marking.now.marks.items c.args.k = c.index-old.ensures ∙ mark_same c.args.marking.now.marks.items c.args.k c.index-old.result.now Unreached lt in
     let is : raised (mark_at c.args.marking.now.marks.items c.args.k) c.args.mark ≡ Some c.in-Some.new = ap (λ o. raised o c.args.mark) (sym at) ∙ sym c.raise.ensures ∙ c.in-Some.is in
     subst (λ q. MarksGrow m.marks.items m.numbers.items m.queue.items (slice_set m.marks.items c.args.k c.in-Some.new) m.numbers.items q) (sym c.in_ok-push.ensures.items)
-    (reach_grows c.args.steps.now c.args.returning.now c.args.entry m.marks.items m.functions.items m.numbers.items m.queue.items c.requires.pass c.args.k c.args.mark c.in-Some.new c.requires.within c.requires.due is)
+    (reach_grows c.args.program.now.steps.now c.args.program.now.returning.now c.args.program.now.entry m.marks.items m.functions.items m.numbers.items m.queue.items c.requires.pass c.args.k c.args.mark c.in-Some.new c.requires.within c.requires.due is)
 
 pub returns-in_ok-push-clause-reached : goal.returns-in_ok-push-clause-reached
 returns-in_ok-push-clause-reached c =
@@ -28,7 +28,7 @@ returns-in_ok-push-clause-reached c =
     let lt : c.args.k < length c.args.marking.now.marks.items = omega (arith, c.requires.pass.marks_size, c.requires.within) in
     let at : c.index-old.result.now ≡ mark_at c.args.marking.now.marks.items c.args.k = c.index-old.ensures ∙ mark_same c.args.marking.now.marks.items c.args.k c.index-old.result.now Unreached lt in
     let is : raised (mark_at c.args.marking.now.marks.items c.args.k) c.args.mark ≡ Some c.in-Some.new = ap (λ o. raised o c.args.mark) (sym at) ∙ sym c.raise.ensures ∙ c.in-Some.is in
-    reach_reached c.args.steps.now c.args.returning.now c.args.entry m.marks.items m.functions.items m.numbers.items m.queue.items c.requires.pass c.args.k c.args.mark c.in-Some.new c.requires.within c.requires.due is
+    reach_reached c.args.program.now.steps.now c.args.program.now.returning.now c.args.program.now.entry m.marks.items m.functions.items m.numbers.items m.queue.items c.requires.pass c.args.k c.args.mark c.in-Some.new c.requires.within c.requires.due is
 
 pub returns-in_default-clause-reached : goal.returns-in_default-clause-reached
 returns-in_default-clause-reached c =

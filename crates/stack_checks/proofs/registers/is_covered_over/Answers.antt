@@ -1,0 +1,14 @@
+use Rattle.std.proofs.Common.{inl, inr, refl}
+use Rattle.stack_checks.proofs.registers.is_covered_over.Goals as goal
+
+pub returns-then-is_covered : goal.returns-then-is_covered
+returns-then-is_covered c so = inl (c.if-is_covered.ensures refl)
+
+pub returns-then-is_covered_by_name : goal.returns-then-is_covered_by_name
+returns-then-is_covered_by_name c so = inr (inl (c.if-is_covered_by_name.ensures refl))
+
+pub returns-then-is_subtracted : goal.returns-then-is_subtracted
+returns-then-is_subtracted c so = inr (inr (inl (c.if-is_subtracted.ensures refl)))
+
+pub returns : goal.returns
+returns c so = inr (inr (inr (c.is_cell_loaded.ensures so)))
