@@ -73,24 +73,26 @@ def program_faults(tools, which):
     return images, switched, faults
 
 
-def main():
+def fuzz(program_faults, most, images_a_program, what):
+    """Makes images of programs side by side, as many as the words of the command line say or `most`, and prints what is wrong of them and how many have what is sought.
+    Whether something is wrong."""
     words = argparse.ArgumentParser()
-    words.add_argument("--images", type=int, default=2000)
+    words.add_argument("--images", type=int, default=most)
     words.add_argument("--jobs", type=int, default=os.cpu_count())
     words.add_argument("--first", type=int, default=1)
     words.add_argument("--pace", default=os.path.join(TOP, "pace"))
     words.add_argument("--scale", default=os.path.join(TOP, "scale"))
     tools = words.parse_args()
-    images = switched = faults = 0
-    numbers = range(tools.first, tools.first + tools.images // IMAGES_A_PROGRAM)
+    images = having = faults = 0
+    numbers = range(tools.first, tools.first + tools.images // images_a_program)
     with ProcessPoolExecutor(tools.jobs) as pool:
-        for some, with_switches, told in pool.map(program_faults, [tools] * len(numbers), numbers, chunksize=4):
-            images, switched, faults = images + some, switched + with_switches, faults + len(told)
+        for some, with_it, told in pool.map(program_faults, [tools] * len(numbers), numbers, chunksize=4):
+            images, having, faults = images + some, having + with_it, faults + len(told)
             for fault in told:
                 print(fault, flush=True)
-    print(f"{images} images, {switched} of them with switches, {faults} faults")
+    print(f"{images} images, {having} of them with {what}, {faults} faults")
     return faults > 0
 
 
 if __name__ == "__main__":
-    sys.exit(main())
+    sys.exit(fuzz(program_faults, 2000, IMAGES_A_PROGRAM, "switches"))

@@ -10,16 +10,14 @@ ending than the original's, a time over the deadline, a level that ends above th
 that were given. It prints how many images there were, how many of them have a loop twice, and how many faults; with a fault the status is 1.
 """
 
-import argparse
 import os
 import random
 import re
 import sys
 import tempfile
-from concurrent.futures import ProcessPoolExecutor
 
 from fit import breaches, number, run
-from fuzz_fit import machine_text, simulated
+from fuzz_fit import fuzz, machine_text, simulated
 from runs import TOP
 
 sys.path.insert(0, os.path.join(TOP, ".ci"))
@@ -133,24 +131,5 @@ def program_faults(tools, which):
     return images, twice, faults
 
 
-def main():
-    words = argparse.ArgumentParser()
-    words.add_argument("--images", type=int, default=500)
-    words.add_argument("--jobs", type=int, default=os.cpu_count())
-    words.add_argument("--first", type=int, default=1)
-    words.add_argument("--pace", default=os.path.join(TOP, "pace"))
-    words.add_argument("--scale", default=os.path.join(TOP, "scale"))
-    tools = words.parse_args()
-    images = twice = faults = 0
-    numbers = range(tools.first, tools.first + tools.images // IMAGES_A_PROGRAM)
-    with ProcessPoolExecutor(tools.jobs) as pool:
-        for some, with_versions, told in pool.map(program_faults, [tools] * len(numbers), numbers):
-            images, twice, faults = images + some, twice + with_versions, faults + len(told)
-            for fault in told:
-                print(fault, flush=True)
-    print(f"{images} images, {twice} of them with a loop twice, {faults} faults")
-    return faults > 0
-
-
 if __name__ == "__main__":
-    sys.exit(main())
+    sys.exit(fuzz(program_faults, 500, IMAGES_A_PROGRAM, "a loop twice"))
