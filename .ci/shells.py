@@ -3,7 +3,7 @@
 
 The manual page has the words of each command of `scale help`, as crates/scale_tool/cases/words.txt has them, and those of `pace`, as
 docs/COMMANDS.md has them; `man` shows it without a warning. Each completion is run by its shell, in a folder with a few files: it gives
-the commands, and for each word of each command the files that may stand there.
+the commands, for each word of each command the files that may stand there, and its options behind two hyphens.
 
 What a shell or `man` isn't there for is left out, and this is told.
 """
@@ -93,6 +93,11 @@ def forms():
     return found + re.findall(r"^    (pace(?: [a-z]+)+ [A-Z].*)$", (ROOT / "docs" / "COMMANDS.md").read_text(), re.M)
 
 
+def without_options(form):
+    """A command line without what stands in brackets behind two hyphens."""
+    return re.sub(r" \[--[^]]*\]", "", form)
+
+
 def parts(form):
     """The names that a form begins with, of the program, its command and a part of it, and the words behind them.
 
@@ -100,8 +105,10 @@ def parts(form):
     (['pace', 'draw', 'run'], ['MACHINE', 'OUT', 'IMAGE', 'INPUT', 'IMAGE', 'INPUT', '..'])
     >>> parts("scale help")
     (['scale', 'help'], [])
+    >>> parts("pace loops IMAGE OUT [INPUT ..] [--input-bytes N]")
+    (['pace', 'loops'], ['IMAGE', 'OUT', 'INPUT', '..'])
     """
-    words = form.replace("[", "").replace("]", "").split()
+    words = without_options(form).replace("[", "").replace("]", "").split()
     names = [*itertools.takewhile(str.islower, words)]
     return names, words[len(names) :]
 
@@ -109,6 +116,10 @@ def parts(form):
 def lines_of(form):
     """The lines to complete for a command, each with what must come of it: the words before, and the one that is asked for."""
     names, words = parts(form)
+    options = set(re.findall(r"--[a-z-]+", form))
+    if options:
+        yield " ".join(names) + " a.elf --", options
+    form = without_options(form)
     if words[-1:] == [".."]:
         words = words[:-1] + [words[-2]]
     done = " ".join(names) + " "

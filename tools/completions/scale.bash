@@ -26,6 +26,14 @@ _scale_words() {
     esac
 }
 
+# The options of a command that begin with a word of their own.
+_scale_options() {
+    case $1 in
+    "pace loops") echo "--input-bytes" ;;
+    "pace all") echo "--input-bytes --no-versions" ;;
+    esac
+}
+
 _scale() {
     local command=${COMP_WORDS[0]##*/} current=${COMP_WORDS[COMP_CWORD]} at=1 words word
     COMPREPLY=()
@@ -34,6 +42,13 @@ _scale() {
     fi
     if [ "$COMP_CWORD" -eq "$at" ]; then
         COMPREPLY=($(compgen -W "$(_scale_words "$command")" -- "$current"))
+        return
+    fi
+    if [[ $current == -* ]]; then
+        COMPREPLY=($(compgen -W "$(_scale_options "$command ${COMP_WORDS[at]}")" -- "$current"))
+        return
+    fi
+    if [ "${COMP_WORDS[COMP_CWORD - 1]}" = --input-bytes ]; then
         return
     fi
     read -r -a words <<< "$(_scale_words "$command ${COMP_WORDS[at]}")"

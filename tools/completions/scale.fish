@@ -64,6 +64,9 @@ for program in scale pace
     complete -c $program -n "__scale_wants $files" -F
 end
 
+complete -c pace -n "__fish_seen_subcommand_from loops all" -l input-bytes -x -d "Take it that no input has more bytes"
+complete -c pace -n "__fish_seen_subcommand_from all" -l no-versions -d "Try no images in which code is there twice"
+
 complete -c scale -n __fish_use_subcommand -a hold -d "Store the image at one speed, the slowest that is in time"
 complete -c scale -n __fish_use_subcommand -a rewrite -d "Store an image that slows down on its way"
 complete -c scale -n __fish_use_subcommand -a report -d "Print what rewrite would do"

@@ -3,9 +3,9 @@ use Rattle.std.proofs.Common.{◌≡◌, ◌≢◌, ℕ, ◌+◌, ◌-◌, ◌*�
 use Rattle.std.specs.Prelude.{◌⊎◌, ◌==◌, ◌&&◌, nat_lt, min, bit_and}
 use Rattle.std.proofs.lemmas.Bool.{cases_lt, cond_both, and_parts, ltb-true, eqb-true, eqb-false}
 use Rattle.std.proofs.Math.Nat.{add-mul, mul-add, mul-sub, mul_assoc, zero-mul, div-add-mod, lt_of_mul-lt-mul_left, mul-le-mul_left, mul-le-mul_right, mul_comm, mul_right_comm}
-use Rattle.std.proofs.lemmas.Nat.{and_le_l, and_le_r}
+use Rattle.std.proofs.lemmas.Nat.{and_comm, and_le_l, and_le_r, and_mask}
 use Rattle.scale_base.specs.Arith.{plus, one_if}
-use Rattle.bound_laws.specs.Values.{Arc, IsMultiple, ahead, IsIn, IsHeld, IsPart, IsAll, Covers, arc, strided, is_whole, common_stride, word, exactly, top, sum_of, sum_with, negated, negated_of, times, difference_of, common_of, truth, multiple, scaled, multiple_from, part, meet, meet_of, without, Interval, plain, biased, below, above, at_most, at_least, both, without_one}
+use Rattle.bound_laws.specs.Values.{Arc, IsMultiple, ahead, IsIn, IsHeld, IsPart, IsAll, Covers, arc, strided, is_whole, common_stride, word, exactly, top, sum_of, sum_with, negated, negated_of, times, difference_of, is_mask, goes_round, common, common_of, truth, multiple, scaled, multiple_from, part, meet, meet_of, without, Interval, plain, biased, below, above, at_most, at_least, both, without_one}
 
 -- ---- multiples
 
@@ -177,14 +177,50 @@ below_top i a x = cond_both (nat_lt (i.low + i.more) (2 ^ 32)) _ _ (λ n. a ≤ 
     (λ h. under i.low i.more a x.start x.word x.near (ltb-true (i.low + i.more) (2 ^ 32) h))
     (λ _. let w = x.word in omega arith)
 
-pub common_in : (i j : Option Arc) (a b : ℕ) → IsHeld i a → IsHeld j b → IsHeld (common_of i j) (bit_and a b)
-common_in None None a b x y = tt
-common_in None (Some j) a b x y = let p = and_le_r a b in let q = below_top j b y in let w = y.word in in_low (bit_and a b) (top j) (omega arith) (omega arith)
-common_in (Some i) None a b x y = let p = and_le_l a b in let q = below_top i a x in let w = x.word in in_low (bit_and a b) (min (top i) (2 ^ 32 - 1)) (omega arith) (omega arith)
-common_in (Some i) (Some j) a b x y =
+-- of a mask
+masks : (j : Arc) (m : ℕ) → IsIn j m → is_mask j ≡ true → (m ≡ 2 ^ 32 - 1) ⊎ (m ≡ 0)
+masks j m x h =
+    let p = and_parts (j.low == 2 ^ 32 - 1) (nat_lt j.more 2) h in
+    let low : j.low ≡ 2 ^ 32 - 1 = eqb-true j.low (2 ^ 32 - 1) p.0 in
+    let few : j.more < 2 = ltb-true j.more 2 p.1 in
+    let near : (m + (2 ^ 32 - j.low)) % 2 ^ 32 ≤ j.more = x.near in
+    let small : m < 2 ^ 32 = x.word in
+    ⊎_elim (λ (l : m < 2 ^ 32 - 1). inr (omega arith)) (λ (l : 2 ^ 32 - 1 ≤ m). inl (omega arith)) (cases_lt m (2 ^ 32 - 1))
+
+masked_in : (i : Arc) (a m : ℕ) → IsIn i a → (m ≡ 2 ^ 32 - 1) ⊎ (m ≡ 0) → goes_round i ≡ true → IsIn (arc i.low i.more) (bit_and a m)
+masked_in i a m x is round =
+    let far : 2 ^ 32 - 1 < i.low + i.more = ltb-true (2 ^ 32 - 1) (i.low + i.more) round in
+    let start : i.low < 2 ^ 32 = x.start in
+    let word : a < 2 ^ 32 = x.word in
+    ⊎_elim
+    (λ (all : m ≡ 2 ^ 32 - 1).
+    let e : bit_and a (2 ^ 32 - 1) ≡ a % 2 ^ 32 = and_mask a 32 in
+    let same : a ≡ bit_and a (2 ^ 32 - 1) = omega arith in
+    subst (λ n. IsIn (arc i.low i.more) (bit_and a n)) (sym all) (subst (λ n. IsIn (arc i.low i.more) n) same (in_arc i.low i.more a word start x.near)))
+    (λ (none : m ≡ 0).
+    let e : bit_and a 0 ≤ 0 = and_le_r a 0 in
+    let same : 0 ≡ bit_and a 0 = omega arith in
+    subst (λ n. IsIn (arc i.low i.more) (bit_and a n)) (sym none) (subst (λ n. IsIn (arc i.low i.more) n) same (in_arc i.low i.more 0 (omega arith) start (omega arith))))
+    is
+
+least_in : (i j : Arc) (a b : ℕ) → IsIn i a → IsIn j b → IsIn (arc 0 (min (top i) (top j))) (bit_and a b)
+least_in i j a b x y =
     let p = and_le_l a b in let q = below_top i a x in let w = x.word in
     let s = and_le_r a b in let u = below_top j b y in
     in_low (bit_and a b) (min (top i) (top j)) (omega arith) (omega arith)
+
+both_bits_in : (i j : Arc) (a b : ℕ) → IsIn i a → IsIn j b → IsIn (common i j) (bit_and a b)
+both_bits_in i j a b x y = cond_both (is_mask j && goes_round i) _ _ (λ k. IsIn k (bit_and a b))
+    (λ h. let p = and_parts (is_mask j) (goes_round i) h in masked_in i a b x (masks j b y p.0) p.1)
+    (λ _. cond_both (is_mask i && goes_round j) _ _ (λ k. IsIn k (bit_and a b))
+    (λ h. let p = and_parts (is_mask i) (goes_round j) h in subst (λ n. IsIn (arc j.low j.more) n) (and_comm b a) (masked_in j b a y (masks i a x p.0) p.1))
+    (λ _. least_in i j a b x y))
+
+pub common_in : (i j : Option Arc) (a b : ℕ) → IsHeld i a → IsHeld j b → IsHeld (common_of i j) (bit_and a b)
+common_in None None a b x y = tt
+common_in None (Some j) a b x y = let p = and_le_r a b in let q = below_top j b y in let w = y.word in in_low (bit_and a b) (top j) (omega arith) (omega arith)
+common_in (Some i) None a b x y = let p = and_le_l a b in let q = below_top i a x in let w = x.word in in_low (bit_and a b) (top i) (omega arith) (omega arith)
+common_in (Some i) (Some j) a b x y = both_bits_in i j a b x y
 
 pub truth_in : (b : Bool) → IsHeld truth (one_if b)
 truth_in true = in_low 1 1 (omega arith) (omega arith)

@@ -28,11 +28,11 @@ use Rattle.scale_base.specs.State.{Setting, State, reg, with_reg, word_at, half_
 use Rattle.scale_base.specs.Step.{Outcome, stops, goes, stepped, jumps, branches, loads, performs, step}
 use Rattle.scale_base.specs.declared.stepping.TrapKind.TheVariants as traps
 use Rattle.bound_laws.specs.Registers.{keeps}
-use Rattle.bound_laws.specs.Values.{Arc, IsIn, IsHeld, arc, strided, exactly, power_of, top_of, reg_arc, imm_arc, load_arc, answer_arc, held, written, Said, said, opposite, Interval, plain, biased, is_signed, view, of_view, first_range, second_range, first_by, second_by, kept_by, HasNone, IsEmpty, IsImpossible, passed, differs, IsRegister, AreBytes}
+use Rattle.bound_laws.specs.Values.{Arc, IsIn, IsHeld, arc, strided, exactly, power_of, top_of, reg_arc, imm_arc, load_arc, answer_arc, held, written, Said, said, opposite, Interval, plain, biased, is_signed, view, of_view, first_range, second_range, first_by, second_by, kept_by, meet, HasNone, IsEmpty, IsImpossible, passed, differs, IsRegister, AreBytes}
 use Rattle.bound_laws.proofs.Effects.{performs_leave, step_of}
 use Rattle.bound_laws.proofs.Signed.{low_one, high_one, upper_word_by}
 use Rattle.bound_laws.proofs.Quotients.{product_in, upper_product_in, quotient_in, divided_in, remainder_in, signed_upper_product_in, signed_quotient_in, signed_remainder_in, power_in, lowered_by_in, lowered_in, united_in, parted_in}
-use Rattle.bound_laws.proofs.Arcs.{in_arc, only_one, times_in, in_word, in_low, in_exactly, sum_in, sum_with_in, difference_in, common_in, truth_in, below_top, without_in, IsBetween, plain_in, of_plain, biased_in, of_biased, below_in, above_in, at_most_in, at_least_in, both_in, without_one_in}
+use Rattle.bound_laws.proofs.Arcs.{in_arc, only_one, times_in, in_word, in_low, in_exactly, sum_in, sum_with_in, difference_in, common_in, truth_in, below_top, meet_in, without_in, IsBetween, plain_in, of_plain, biased_in, of_biased, below_in, above_in, at_most_in, at_least_in, both_in, without_one_in}
 
 -- ---- operations
 
@@ -174,11 +174,11 @@ second_between Bge i j a b v w x y h = at_most_in j i (biased b) (biased a) y x 
 second_between Bltu i j a b v w x y h = above_in j i b a y x (ltb-true a b h)
 second_between Bgeu i j a b v w x y h = at_most_in j i b a y x (ltb-false a b (not-true (nat_lt a b) h))
 
-first_seen : (op : BranchOp) (i j : Arc) (a b : ℕ) → IsIn i a → IsIn j b → is_taken op a b ≡ true → IsIn (of_view op (first_range op (view op i) (view op j))) a
-first_seen op i j a b x y h = seen_back op (first_range op (view op i) (view op j)) a x.word (first_between op (view op i) (view op j) a b x.word y.word (seen_in op i a x) (seen_in op j b y) h)
+first_seen : (op : BranchOp) (i j : Arc) (a b : ℕ) → IsIn i a → IsIn j b → is_taken op a b ≡ true → IsIn (meet i (of_view op (first_range op (view op i) (view op j)))) a
+first_seen op i j a b x y h = meet_in i (of_view op (first_range op (view op i) (view op j))) a x (seen_back op (first_range op (view op i) (view op j)) a x.word (first_between op (view op i) (view op j) a b x.word y.word (seen_in op i a x) (seen_in op j b y) h))
 
-second_seen : (op : BranchOp) (i j : Arc) (a b : ℕ) → IsIn i a → IsIn j b → is_taken op a b ≡ true → IsIn (of_view op (second_range op (view op i) (view op j))) b
-second_seen op i j a b x y h = seen_back op (second_range op (view op i) (view op j)) b y.word (second_between op (view op i) (view op j) a b x.word y.word (seen_in op i a x) (seen_in op j b y) h)
+second_seen : (op : BranchOp) (i j : Arc) (a b : ℕ) → IsIn i a → IsIn j b → is_taken op a b ≡ true → IsIn (meet j (of_view op (second_range op (view op i) (view op j)))) b
+second_seen op i j a b x y h = meet_in j (of_view op (second_range op (view op i) (view op j))) b y (seen_back op (second_range op (view op i) (view op j)) b y.word (second_between op (view op i) (view op j) a b x.word y.word (seen_in op i a x) (seen_in op j b y) h))
 
 first_in : (op : BranchOp) (i j : Option Arc) (a b : ℕ) → IsHeld i a → IsHeld j b → is_taken op a b ≡ true → IsHeld (first_by op i j) a
 first_in op None j a b x y h = tt

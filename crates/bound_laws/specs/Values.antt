@@ -209,11 +209,26 @@ lowered_of i (Some j) = if j.more == 0 then lowered_by i (2 ^ (j.low % 32)) else
 
 -- ---- bits
 
--- what the bits of both numbers have in common
+-- each number of the interval is 0, or has all bits
+abbrev pub is_mask : Arc → Bool
+is_mask i = (i.low == 2 ^ 32 - 1) && nat_lt i.more 2
+
+-- the interval goes on from the greatest word to 0
+abbrev pub goes_round : Arc → Bool
+goes_round i = nat_lt (2 ^ 32 - 1) (i.low + i.more)
+
+-- what the bits of both numbers have in common: a mask leaves the number, or 0
+abbrev pub common : Arc → Arc → Arc
+common i j =
+    if is_mask j && goes_round i then arc i.low i.more
+    else if is_mask i && goes_round j then arc j.low j.more
+    else arc 0 (min (top i) (top j))
+
 abbrev pub common_of : Option Arc → Option Arc → Option Arc
 common_of None None = None
 common_of None (Some j) = Some (arc 0 (top j))
-common_of (Some i) j = Some (arc 0 (min (top i) (top_of j)))
+common_of (Some i) None = Some (arc 0 (top i))
+common_of (Some i) (Some j) = Some (common i j)
 
 -- the greatest word that is at most a sum of both numbers
 abbrev pub top_sum : Arc → Arc → ℕ
@@ -423,13 +438,13 @@ abbrev pub first_by : BranchOp → Option Arc → Option Arc → Option Arc
 first_by op None j = None
 first_by op (Some i) None = Some i
 first_by Bne (Some i) (Some j) = if j.more == 0 then without (Some i) j.low else Some i
-first_by op (Some i) (Some j) = Some (of_view op (first_range op (view op i) (view op j)))
+first_by op (Some i) (Some j) = Some (meet i (of_view op (first_range op (view op i) (view op j))))
 
 abbrev pub second_by : BranchOp → Option Arc → Option Arc → Option Arc
 second_by op i None = None
 second_by op None (Some j) = Some j
 second_by Bne (Some i) (Some j) = if i.more == 0 then without (Some j) i.low else Some j
-second_by op (Some i) (Some j) = Some (of_view op (second_range op (view op i) (view op j)))
+second_by op (Some i) (Some j) = Some (meet j (of_view op (second_range op (view op i) (view op j))))
 
 abbrev pub kept_by : Option Said → (ℕ → Option Arc) → ℕ → Option Arc
 kept_by None at r = at r
@@ -551,12 +566,16 @@ opposite_of n = (2 ^ 32 - n % 2 ^ 32) % 2 ^ 32
 abbrev pub solved : Measure → Option Arc → Option Arc → Option Arc
 solved m line other = sum_with (sum_of line (scaled (opposite_of m.other_factor) other)) (opposite_of m.shift)
 
--- the interval of a word that a line gives behind the instruction
+-- the interval of a register that line j gives behind the instruction, which adds so much to that
+abbrev pub solved_by : Values → Instr → ℕ → ℕ → ℕ → ℕ → Option Arc
+solved_by v i a b j e = solved (v.forms j) (sum_with (v.lines a j) e) (held (passed i a b (v.at a)) (v.forms j).other)
+
+-- the register is a word, and its interval holds that, or what of it the instruction leaves
 abbrev pub IsSolved : Values → Instr → ℕ → ℕ → ℕ → Type 0
 IsSolved v i a b r =
     (j : ℕ) × (e : ℕ) × ((v.forms j).register ≡ r) × ((v.forms j).factor ≡ 1) × (effect (v.forms j) i ≡ Some e) ×
     (is_some (passed i a b (v.at a) r) ≡ true) ×
-    Covers (v.at b r) (solved (v.forms j) (sum_with (v.lines a j) e) (held (passed i a b (v.at a)) (v.forms j).other))
+    (Covers (v.at b r) (solved_by v i a b j e) ⊎ Covers (v.at b r) (meet_of (solved_by v i a b j e) (passed i a b (v.at a) r)))
 
 -- a register's interval at b holds what the instruction at a leaves in it
 abbrev pub IsCovered : Values → Instr → ℕ → ℕ → ℕ → Type 0

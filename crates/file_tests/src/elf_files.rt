@@ -8,17 +8,10 @@ use std::process::Abort;
 use std::test::Fail;
 use symbol_index::SortedSymbols;
 
-/// An image with its entry, how many segments it has, and the ends of its text.
-fn expect_image(
-    rt: &impl Abort,
-    view: &ImageView<'_>,
-    entry: u32,
-    len: usize,
-    segments: usize,
-    text: Range,
-) {
+/// An image with its entry, its bytes and how many segments it has, and the ends of its text.
+fn expect_image(rt: &impl Abort, view: &ImageView<'_>, numbers: (u32, usize, usize), text: Range) {
     let found = (view.entry(), view.file().len(), view.segment_count());
-    assert_eq!(rt; found, (entry, len, segments));
+    assert_eq!(rt; found, numbers);
     let found = (view.text(), view.keyed());
     assert_eq!(rt; found, ([text].as_slice(), None));
 }
@@ -30,7 +23,7 @@ fn reads_a_segment_and_text(rt: HostRuntime) -> Result<(), Fail> {
         from: 0x10000,
         to: 0x1000C,
     };
-    expect_image(&rt, &view, 0x10000, 96, 1, text);
+    expect_image(&rt, &view, (0x10000, 96, 1), text);
     Ok(())
 }
 
@@ -41,7 +34,7 @@ fn reads_segments_and_text(rt: HostRuntime) -> Result<(), Fail> {
         from: 0x100B4,
         to: 0x100C4,
     };
-    expect_image(&rt, &view, 0x100B4, 501, 2, text);
+    expect_image(&rt, &view, (0x100B4, 501, 2), text);
     Ok(())
 }
 

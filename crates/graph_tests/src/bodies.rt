@@ -227,12 +227,12 @@ fn expect_body(
     rt: &impl Abort,
     alloc: Global,
     edges: &Edges<'_>,
-    bit: usize,
-    one: &LoopExtent,
+    numbered: (usize, &LoopExtent),
     group: &GroupBodies,
 ) -> Result<(), Fail>
-    requires { bit < 64 }
+    requires { numbered.0 < 64 }
 {
+    let (bit, one) = numbered;
     let body = plain_body(alloc, edges.sources, edges.targets, edges.count, one)?;
     for (word, is) in group.bodies.iter().zip(&body) {
         expect_same(rt, bit as u64, has_bit(*word, bit), *is);
@@ -253,7 +253,7 @@ fn expect_plain(
         if bit >= 64 {
             return Err("there are at most 64 loops".into());
         }
-        expect_body(rt, alloc, edges, bit, one, group)?;
+        expect_body(rt, alloc, edges, (bit, one), group)?;
     }
     Ok(())
 }

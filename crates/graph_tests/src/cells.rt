@@ -1,7 +1,7 @@
 //! Bounds of loops that go up to a number in memory, which stores of the program keep in an interval, and where one may be anything.
 
 use crate::programs::expect_parts;
-use loop_drafts::{draft_loops, printed_text};
+use loop_drafts::{DraftInputs, draft_loops, printed_text};
 use run_progress::Silent;
 use std::alloc::Global;
 use std::test::Fail;
@@ -104,9 +104,13 @@ fn file_of(alloc: Global, program: &[u32; 22]) -> Result<Vec<u8>, Fail> {
 }
 
 /// The draft of a program's loops.
-fn draft_of(alloc: Global, program: &[u32; 22]) -> Result<String, Fail> {
+pub fn draft_of(alloc: Global, program: &[u32; 22]) -> Result<String, Fail> {
     let file = file_of(alloc, program)?;
-    match draft_loops(alloc, &file, &[], &mut Silent) {
+    let inputs = DraftInputs {
+        items: &[],
+        most: None,
+    };
+    match draft_loops(alloc, &file, &inputs, &mut Silent) {
         Ok(draft) => Ok(printed_text(alloc, &draft.pieces)?),
         Err(_) => Err("there is a draft".into()),
     }

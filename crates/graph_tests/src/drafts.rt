@@ -1,7 +1,7 @@
 //! Bounds that are filled in where a draft of a loop file has none. Whole drafts are data, `loops.txt` and `bounds.txt` of the second program's `cases`.
 
 use crate::programs::{expect_parts, image_of};
-use loop_drafts::{draft_loops, filled_text};
+use loop_drafts::{DraftInputs, draft_loops, filled_text};
 use run_progress::Silent;
 use std::alloc::Global;
 use std::test::Fail;
@@ -12,7 +12,11 @@ const FOR_EVER: [u32; 2] = [0x0000_0013, 0x0000_006F];
 /// The draft of a program with this bound where the code shows none.
 fn filled_draft(alloc: Global, words: &[u32], bound: u32) -> Result<String, Fail> {
     let image = image_of(alloc, words)?;
-    match draft_loops(alloc, &image, &[], &mut Silent) {
+    let inputs = DraftInputs {
+        items: &[],
+        most: None,
+    };
+    match draft_loops(alloc, &image, &inputs, &mut Silent) {
         Ok(draft) => Ok(filled_text(alloc, &draft.pieces, bound)?),
         Err(_) => Err("there is a draft".into()),
     }

@@ -32,6 +32,8 @@ mod stubs;
 #[cfg(test)]
 mod table_jumps;
 #[cfg(test)]
+mod tellers;
+#[cfg(test)]
 mod text_words;
 #[cfg(test)]
 mod walks;

@@ -79,21 +79,23 @@ fn arcs_of(alloc: Global, ends: &[(usize, usize)]) -> Result<Vec<Arc>, Fail> {
     Ok(arcs)
 }
 
-fn expect_order(
-    rt: &impl Abort,
-    name: &str,
+/// Some numbers, and how many of them a cycle of their arcs has: none, where there is none.
+#[derive(Clone, Copy)]
+struct Numbers<'a> {
+    name: &'a str,
     count: usize,
-    arcs: &[Arc],
-    order: &Order,
     in_cycle: usize,
-) {
+}
+
+fn expect_order(rt: &impl Abort, of: Numbers<'_>, arcs: &[Arc], order: &Order) {
+    let name = of.name;
     match order {
         Order::Sorted(order) => {
-            assert_eq!(rt; in_cycle, 0, "{name}");
-            expect_sorted(rt, name, count, arcs, order);
+            assert_eq!(rt; of.in_cycle, 0, "{name}");
+            expect_sorted(rt, name, of.count, arcs, order);
         }
         Order::Cycle(cycle) => {
-            assert_eq!(rt; cycle.len(), in_cycle, "{name}");
+            assert_eq!(rt; cycle.len(), of.in_cycle, "{name}");
             expect_cycle(rt, name, arcs, cycle);
         }
     }
@@ -102,21 +104,24 @@ fn expect_order(
 fn expect_case(
     rt: &impl Abort,
     alloc: Global,
-    name: &str,
-    count: usize,
+    of: Numbers<'_>,
     ends: &[(usize, usize)],
-    in_cycle: usize,
 ) -> Result<(), Fail> {
     let arcs = arcs_of(alloc, ends)?;
-    let order = order_of(alloc, count, &arcs)?.ok_or("the arcs are numbered")?;
-    expect_order(rt, name, count, &arcs, &order, in_cycle);
+    let order = order_of(alloc, of.count, &arcs)?.ok_or("the arcs are numbered")?;
+    expect_order(rt, of, &arcs, &order);
     Ok(())
 }
 
 #[test]
 fn puts_callees_first_or_finds_a_cycle(rt: HostRuntime) -> Result<(), Fail> {
     for (name, count, ends, in_cycle) in &CASES {
-        expect_case(&rt, rt.alloc(), name, *count, ends, *in_cycle)?;
+        let of = Numbers {
+            name,
+            count: *count,
+            in_cycle: *in_cycle,
+        };
+        expect_case(&rt, rt.alloc(), of, ends)?;
     }
     Ok(())
 }

@@ -25,6 +25,23 @@ const NO_BOUND: u32 = 0x8000_0000;
 /// Where a counter has such a bound, it is looked at what else turns do.
 const WIDE: u32 = 1_000_000_000;
 
+/// No number of a register.
+const NO_MEASURE: Measure = Measure {
+    register: 1,
+    factor: 0,
+    other: 1,
+    other_factor: 0,
+    shift: 0,
+};
+
+/// A program whose loops are bounded: its loops, what is proposed of it, and how many bytes its input has at most, where that is known.
+#[derive(Clone, Copy)]
+pub struct LoopProgram<'a> {
+    pub tree: &'a LoopTree,
+    pub tables: &'a Tables,
+    pub most: Option<u32>,
+}
+
 /// The best counter so far, and what the turns add to it.
 #[derive(Drop)]
 struct Choice {
@@ -190,6 +207,11 @@ fn certificate_by(alloc: Global, table: TurnTable) -> StackCertificate {
     }
 }
 
+// How many turns there may be, by what each turn does.
+fn bound_by(table: &TurnTable) -> u32 {
+    table.width.checked_div(table.least).unwrap_or(u32::MAX)
+}
+
 // What is counted in, by what each turn does.
 fn counter_by(table: &TurnTable) -> StackCounter {
     let (factor, shift) = match table.kind {
@@ -209,6 +231,7 @@ fn counter_by(table: &TurnTable) -> StackCounter {
             factor,
             shift,
         },
+        TurnPlace::Input => StackCounter::InRegisters(NO_MEASURE),
     }
 }
 
@@ -224,10 +247,10 @@ fn is_within(counter: &Option<Choice>, number: u32) -> bool {
 pub fn find_certificate(
     alloc: Global,
     claim: &StackClaim<'_>,
-    tree: &LoopTree,
-    tables: &Tables,
+    program: LoopProgram<'_>,
     k: usize,
 ) -> Result<Option<StackCertificate>, NoMemory> {
+    let LoopProgram { tree, tables, most } = program;
     if k >= tree.loop_count() {
         return Ok(None);
     }
@@ -241,8 +264,8 @@ pub fn find_certificate(
     let register = choose_register(alloc, &scope)?;
     let place = choose_word(alloc, &scope, register)?;
     let counter = choose_sum(alloc, &scope, place)?;
-    if !is_within(&counter, WIDE) {
-        if let Some(table) = find_turns(alloc, &scope)? {
+    if let Some(table) = find_turns(alloc, &scope, most, !is_within(&counter, WIDE))? {
+        if !is_within(&counter, bound_by(&table).saturating_add(1)) {
             return Ok(Some(certificate_by(alloc, table)));
         }
     }

@@ -1,5 +1,5 @@
-//! Counters of loops, in registers and in words of the stack, as certificates of their bounds; and heights of calls: proposals, which `shown_bounds`
-//! accepts or refuses. Nothing is promised of them.
+//! Counters of loops, in registers, in words of the stack and in what is left of the input, as certificates of their bounds; and heights of calls:
+//! proposals, which `shown_bounds` accepts or refuses. Nothing is promised of them.
 //! Tests: crates/graph_tests/src/stack_bounds.rt.
 #![tactic(auto)]
 
@@ -16,5 +16,5 @@ mod turning;
 mod turns;
 mod unturned;
 
-pub use certificates::find_certificate;
+pub use certificates::{LoopProgram, find_certificate};
 pub use heights::heights_of;

@@ -1,5 +1,5 @@
-//! What is known, at each node of a loop, of registers and of a word of the stack by the number that stood in a counted place when the header
-//! was last come to.
+//! What is known, at each node of a loop, of registers and of a word of the stack, or of what is left of the input, by the number that stood
+//! in a counted place when the header was last come to.
 
 ghost use Rattle.std.specs.Prelude.{◌<◌};
 
@@ -9,7 +9,10 @@ use scale_base::{BranchOp, ImmOp, Instr, RegOp};
 use turn_checks::{Relation, TurnPlace};
 use wrapped_intervals::{Arc, keeps};
 
-/// The relations before a node: by register, and that of a word of the stack; and whether the number at the header was not 0.
+/// The number of the service that reads.
+const READ: u64 = 63;
+
+/// The relations before a node: by register, and that of a word of the stack, or of what is left of the input; and whether the number at the header was not 0.
 #[derive(Clone, Copy)]
 pub struct Known {
     pub row: [Relation; 32],
@@ -32,7 +35,7 @@ impl Known {
         let mut known = Known::nothing();
         match place {
             TurnPlace::Register(r) => known.set(r, relation),
-            TurnPlace::Word(_) => known.own = relation,
+            TurnPlace::Word(_) | TurnPlace::Input => known.own = relation,
         }
         known
     }
@@ -56,7 +59,7 @@ impl Known {
     pub fn at_place(&self, place: TurnPlace) -> Relation {
         match place {
             TurnPlace::Register(r) => self.of(r),
-            TurnPlace::Word(_) => self.own,
+            TurnPlace::Word(_) | TurnPlace::Input => self.own,
         }
     }
 }
@@ -158,7 +161,8 @@ fn more(one: Operand, n: u32) -> Relation {
         Relation::Below(_, _) if n == 0 => one.relation,
         Relation::Below(few, shift) => less(few, shift, least, n.wrapping_neg()),
         Relation::Above(many) => raised(many, top, n),
-        Relation::Unknown => Relation::Unknown,
+        Relation::Read(_) if n == 0 => one.relation,
+        Relation::Read(_) | Relation::Unknown => Relation::Unknown,
     }
 }
 
@@ -286,6 +290,58 @@ pub fn target_of(instr: Instr) -> u8 {
     }
 }
 
+/// Whether a node reads from the input.
+pub fn is_read(scope: &Scope<'_>, k: usize) -> bool {
+    match scope.instr(k) {
+        Instr::Ecall => is_one(scope.arc(k, 17), READ),
+        _ => false,
+    }
+}
+
+// Whether an interval has one number alone.
+fn is_one(arc: Option<Arc>, n: u64) -> bool {
+    match arc {
+        Some(arc) => arc.low() == n && arc.more() == 0,
+        None => false,
+    }
+}
+
+// How much was taken from the input, by what is left of it.
+fn consumed_by(own: Relation) -> u32 {
+    match own {
+        Relation::Below(less, _) => less,
+        _ => 0,
+    }
+}
+
+// How much a register shows that was taken on the way to a node.
+fn counted_by(scope: &Scope<'_>, known: &Known, k: usize, to: usize, r: u8) -> u32 {
+    match known.of(r) {
+        Relation::Read(less) if keeps(r, scope.instr(k)) => {
+            let (least, top) = limits(scope.arc_on(k, to, r));
+            if top < 0x8000_0000 {
+                less.saturating_add(least)
+            } else {
+                0
+            }
+        }
+        _ => 0,
+    }
+}
+
+/// What is left of the input on the way from a node to another, by what is known before the node and behind it.
+pub fn taken_on(scope: &Scope<'_>, known: &Known, own: Relation, k: usize, to: usize) -> Relation {
+    let mut taken = 0;
+    for r in 1..32 {
+        taken = taken.max(counted_by(scope, known, k, to, r));
+    }
+    if taken > consumed_by(own) {
+        Relation::Below(taken, 0)
+    } else {
+        own
+    }
+}
+
 // Behind an instruction that is no call.
 fn behind_step(scope: &Scope<'_>, place: TurnPlace, known: &Known, k: usize) -> Known {
     let instr = scope.instr(k);
@@ -306,6 +362,9 @@ fn behind_step(scope: &Scope<'_>, place: TurnPlace, known: &Known, k: usize) -> 
                 }
             }
         };
+    }
+    if matches!(&place, TurnPlace::Input) && is_read(scope, k) {
+        left = Relation::Read(consumed_by(known.own));
     }
     then.set(rd, left);
     then
@@ -371,6 +430,7 @@ pub fn joined(p: Relation, q: Relation) -> Relation {
             Relation::Below(less.min(other), shift.min(further))
         }
         (Relation::Above(more), Relation::Above(other)) => Relation::Above(more.min(other)),
+        (Relation::Read(less), Relation::Read(other)) => Relation::Read(less.min(other)),
         _ => Relation::Unknown,
     }
 }
@@ -407,6 +467,7 @@ fn is_same(p: Relation, q: Relation) -> bool {
             less == other && shift == further
         }
         (Relation::Above(more), Relation::Above(other)) => more == other,
+        (Relation::Read(less), Relation::Read(other)) => less == other,
         _ => false,
     }
 }

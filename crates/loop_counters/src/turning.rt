@@ -3,7 +3,7 @@
 ghost use Rattle.std.specs.Prelude.{◌<◌, length};
 
 use crate::quiet::quiet_of;
-use crate::relating::{Known, behind, is_used_on, on_way, target_of};
+use crate::relating::{Known, behind, is_read, is_used_on, on_way, taken_on, target_of};
 use crate::scope::Scope;
 use crate::stores::stored_word;
 use scale_base::{ImmOp, Instr, NoMemory, RegOp};
@@ -127,6 +127,7 @@ fn known_to(
         on_way(scope, behind, k, to)
     };
     then.used = is_used_on(scope, known, k, to);
+    then.own = taken_on(scope, known, then.own, k, to);
     Some(then)
 }
 
@@ -213,6 +214,7 @@ fn place_arc(scope: &Scope<'_>, place: TurnPlace) -> Option<Arc> {
     match place {
         TurnPlace::Register(r) => scope.arc(scope.header, r),
         TurnPlace::Word(number) => scope.word_arc(scope.header, number),
+        TurnPlace::Input => None,
     }
 }
 
@@ -360,6 +362,53 @@ fn note(places: &mut Vec<TurnPlace>, seen: &mut [bool; 96], number: usize) -> Re
     Ok(())
 }
 
+// How turns are counted that read, where an input has so many bytes at most.
+fn reading(flow: &Flow, most: u32) -> Option<Measured> {
+    match flow.end {
+        Some(Relation::Below(least, _)) if least > 0 => Some(Measured {
+            kind: TurnKind::Lowers,
+            least,
+            width: most,
+        }),
+        _ => None,
+    }
+}
+
+// The better one of what was found and what is left of the input.
+fn best_with_input(
+    alloc: Global,
+    scope: &Scope<'_>,
+    numbers: &Numbers,
+    most: u32,
+    best: Option<Found>,
+) -> Result<Option<Found>, NoMemory> {
+    let (place, first) = (TurnPlace::Input, Relation::Below(0, 0));
+    let Some(flow) = flow_of(alloc, scope, numbers, place, first)? else {
+        return Ok(best);
+    };
+    let Some(measured) = reading(&flow, most) else {
+        return Ok(best);
+    };
+    match best {
+        Some(found) if found.measured.bound() <= measured.bound() => Ok(best),
+        _ => Ok(Some(Found {
+            place,
+            first,
+            measured,
+        })),
+    }
+}
+
+// Whether the loop reads from the input.
+fn has_reads(scope: &Scope<'_>) -> bool {
+    for k in scope.nodes {
+        if scope.is_live(*k) && is_read(scope, *k) {
+            return true;
+        }
+    }
+    false
+}
+
 // The registers and words that the loop writes.
 fn places_of(alloc: Global, scope: &Scope<'_>) -> Result<Vec<TurnPlace>, NoMemory> {
     let mut places = Vec::new(alloc);
@@ -417,6 +466,15 @@ fn rows_of(alloc: Global, flow: &Flow, numbers: &Numbers, count: usize) -> Resul
     Ok(Rows { rows, own, used })
 }
 
+// What is so of a place at the end of its turns. Of what is left of the input, nothing is halved.
+fn end_of(place: TurnPlace, end: Option<Relation>) -> Relation {
+    match (place, end) {
+        (TurnPlace::Input, Some(Relation::Below(less, _))) => Relation::Below(less, 0),
+        (_, Some(end)) => end,
+        (_, None) => Relation::Unknown,
+    }
+}
+
 // The table of what was found.
 fn table_of(
     alloc: Global,
@@ -433,7 +491,7 @@ fn table_of(
         kind: found.measured.kind,
         width: found.measured.width,
         least: found.measured.least,
-        end: flow.end.unwrap_or(Relation::Unknown),
+        end: end_of(found.place, flow.end),
         body: scope.body.clone()?,
         rows,
         own,
@@ -442,19 +500,41 @@ fn table_of(
     }))
 }
 
-/// A table of a loop's turns, of the least bound that is found.
-pub fn find_turns(alloc: Global, scope: &Scope<'_>) -> Result<Option<TurnTable>, NoMemory> {
+// The best place of a loop, of those that it writes.
+fn best_place(
+    alloc: Global,
+    scope: &Scope<'_>,
+    numbers: &Numbers,
+) -> Result<Option<Found>, NoMemory> {
+    let places = places_of(alloc, scope)?;
+    let mut best = None;
+    for place in &places {
+        best = best_of(alloc, scope, numbers, *place, best)?;
+    }
+    Ok(best)
+}
+
+/// A table of a loop's turns, of the least bound that is found: by what is left of the input, if it has so many bytes at most, and by the
+/// registers and words that the loop writes, where those are wanted.
+pub fn find_turns(
+    alloc: Global,
+    scope: &Scope<'_>,
+    most: Option<u32>,
+    all: bool,
+) -> Result<Option<TurnTable>, NoMemory> {
     if scope.nodes.len() > MOST_NODES {
         return Ok(None);
     }
-    let places = places_of(alloc, scope)?;
-    if places.is_empty() {
-        return Ok(None);
-    }
     let numbers = Numbers::new(alloc, scope)?;
-    let mut best = None;
-    for place in &places {
-        best = best_of(alloc, scope, &numbers, *place, best)?;
+    let mut best = if all {
+        best_place(alloc, scope, &numbers)?
+    } else {
+        None
+    };
+    if let Some(most) = most {
+        if has_reads(scope) {
+            best = best_with_input(alloc, scope, &numbers, most, best)?;
+        }
     }
     match best {
         Some(found) => table_of(alloc, scope, &numbers, found),

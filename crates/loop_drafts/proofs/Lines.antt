@@ -1,11 +1,11 @@
 -- One more piece of a text, and one more number of a list.
-use Rattle.std.proofs.Common.{◌≡◌, ℕ, ◌+◌, ◌<◌, Bool, List, [], ◌∷◌, ◌++◌, length, get_or, take, sym, ap, ◌∙◌, arith, length-append}
+use Rattle.std.proofs.Common.{◌≡◌, ℕ, ◌+◌, ◌<◌, Bool, Option, List, [], ◌∷◌, ◌++◌, length, get_or, take, sym, ap, ◌∙◌, arith, length-append}
 use Rattle.std.specs.List.{flat_map, insert}
 use Rattle.std.proofs.lemmas.List.{take_more, flat_map_more}
 use Rattle.std.proofs.lemmas.Grind.{common_steps}
 use Rattle.loop_drafts.specs.declared.drafted.Piece.{Piece}
 use Rattle.loop_drafts.specs.Numbered.{AreNumbers}
-use Rattle.loop_drafts.specs.Pieces.{BeginsWithReturns, printed, printed_piece, returns_line}
+use Rattle.loop_drafts.specs.Pieces.{HasFirstLines, first_lines, printed, printed_piece}
 
 pub pieces_more : {A : Type 0} (line : A → List ℕ) (text more : List ℕ) (items : List A) (k : ℕ) (x : A) → k < length items → x ≡ get_or items k x → more ≡ text ++ line x
     → text ≡ flat_map line (take k items) → more ≡ flat_map line (take (k + 1) items)
@@ -22,5 +22,5 @@ numbers_more k n x xs are low = record {
 }
 
 -- a piece before all others begins the file
-pub first_begins : (returns : Bool) (first : Piece) (pieces : List Piece) → printed_piece first ≡ returns_line returns → BeginsWithReturns returns (printed (insert pieces 0 first))
-first_begins returns first pieces e = (printed pieces, ap (λ (text : List ℕ). text ++ printed pieces) e)
+pub first_begins : (most : Option ℕ) (returns : Bool) (first : Piece) (pieces : List Piece) → printed_piece first ≡ first_lines most returns → HasFirstLines most returns (printed (insert pieces 0 first))
+first_begins most returns first pieces e = (printed pieces, ap (λ (text : List ℕ). text ++ printed pieces) e)

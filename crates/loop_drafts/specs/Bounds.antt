@@ -1,5 +1,5 @@
 -- Which bounds of drafted loops are found: those that the code shows by itself. A loop without a bound is noted with the greatest one.
-use Rattle.std.specs.Prelude.{◌≡◌, ◌==◌, ℕ, ◌⊎◌, not, Bool, true, false, List}
+use Rattle.std.specs.Prelude.{◌≡◌, ◌==◌, ℕ, ◌⊎◌, not, Bool, true, false, List, Option}
 use Rattle.std.specs.List.{All}
 use Rattle.scale_base.specs.Image.{Image}
 use Rattle.cost_theory.specs.Reached.{Code}
@@ -38,14 +38,14 @@ turning_by least note = record note { at_least = least }
 
 -- ---- by tables of the registers and of the stack
 
--- the bound of a note is shown by the code, among whatever notes it stands
-abbrev pub IsBoundShown : Image → Code → Values → Stacks → LoopNote → Type 0
-IsBoundShown image code v w note = (notes : List LoopNote) (k : ℕ) → note_at notes k ≡ note →
-    IsShown (text_of image) (text_graph (text_of image) code) v w (noted_loops notes) k
+-- the bound of a note is shown by the code, among whatever notes it stands, for inputs that have at most so many bytes, where that is told
+abbrev pub IsBoundShown : Image → Code → Values → Stacks → Option ℕ → LoopNote → Type 0
+IsBoundShown image code v w most note = (notes : List LoopNote) (k : ℕ) → note_at notes k ≡ note →
+    IsShown (text_of image) (text_graph (text_of image) code) v w most (noted_loops notes) k
 
 -- the note has no bound, or one that is shown
-abbrev pub IsBoundFound : Image → Code → Values → Stacks → LoopNote → Type 0
-IsBoundFound image code v w note = IsOpen note ⊎ IsBoundShown image code v w note
+abbrev pub IsBoundFound : Image → Code → Values → Stacks → Option ℕ → LoopNote → Type 0
+IsBoundFound image code v w most note = IsOpen note ⊎ IsBoundShown image code v w most note
 
 -- the least turns of a note are shown by the code, among whatever notes it stands
 abbrev pub IsLeastShown : Image → Code → Values → Stacks → LoopNote → Type 0
@@ -62,13 +62,14 @@ AreReturnsFound image code v w returns = returns ≡ true → ComesBack (text_of
 
 -- ---- what is found
 
--- of each note and of returns, by one pair of tables that the code confirms
-pub record AreBoundsShown (image : Image) (notes : List LoopNote) (returns : Bool) : Type 0 where
+-- of each note and of returns, by one pair of tables that the code confirms: bounds for inputs of so many bytes at most, where that is told, and the
+-- least turns and returns for each input
+pub record AreBoundsShown (image : Image) (most : Option ℕ) (notes : List LoopNote) (returns : Bool) : Type 0 where
   pub code : Code
   pub values : Values
   pub stacks : Stacks
   pub analysed : IsStackAnalysed image code values stacks
-  pub shown : All (IsBoundFound image code values stacks) notes
+  pub shown : All (IsBoundFound image code values stacks most) notes
   pub least : All (IsLeastFound image code values stacks) notes
   pub comes_back : AreReturnsFound image code values stacks returns
 
@@ -78,5 +79,5 @@ pub record AreNoneFound (notes : List LoopNote) (returns : Bool) : Type 0 where
   pub least : All NeedNotTurn notes
   pub unproved : returns ≡ false
 
-abbrev pub AreBoundsFound : Image → List LoopNote → Bool → Type 0
-AreBoundsFound image notes returns = AreNoneFound notes returns ⊎ AreBoundsShown image notes returns
+abbrev pub AreBoundsFound : Image → Option ℕ → List LoopNote → Bool → Type 0
+AreBoundsFound image most notes returns = AreNoneFound notes returns ⊎ AreBoundsShown image most notes returns

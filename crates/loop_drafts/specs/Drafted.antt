@@ -1,5 +1,5 @@
--- What drafting the loop file of an image answers. Each bound is shown by the code: a loop whose bound isn't known stands without one, and the file
--- is drafted only where the loops are taken as it notes them.
+-- What drafting the loop file of an image answers, for inputs of so many bytes at most, where that is told. Each bound is shown by the code: a loop whose bound isn't
+-- known stands without one, and the file is drafted only where the loops are taken as it notes them.
 use Rattle.std.specs.Prelude.{codes, ◌≡◌, ℕ, ◌^◌, ◌<◌, ◌≤◌, ◌⊎◌, Bool, true, false, List, length, count_by, Option, Some, None, Result, Ok, Err}
 use Rattle.std.specs.List.{All}
 use Rattle.scale_base.specs.declared.limits.TheConstants.{FILE_LIMIT}
@@ -17,7 +17,7 @@ use Rattle.loop_drafts.specs.declared.drafted.Piece.{Piece}
 use Rattle.loop_drafts.specs.declared.drafted.LoopDraft.{LoopDraft}
 use Rattle.loop_drafts.specs.Countable.{AreCountable}
 use Rattle.loop_drafts.specs.Bounds.{most_turns, is_bounded, AreBoundsFound}
-use Rattle.loop_drafts.specs.Pieces.{BeginsWithReturns, filled, printed}
+use Rattle.loop_drafts.specs.Pieces.{HasFirstLines, filled, printed}
 
 -- the file with the greatest bound for each loop that has none
 abbrev pub filled_most : List Piece → List ℕ
@@ -48,21 +48,21 @@ pub record AreReadAs (original : Image) (v : FlowGraph) (pieces : List Piece) (n
 
 -- The pieces of a loop file of the image: how many loops it has, how many of them with a bound that is shown by the code, and whether the code shows
 -- that returns go back.
-pub record AreTakenPieces (original : Image) (v : FlowGraph) (pieces : List Piece) (loops proved : ℕ) (returns : Bool) (aside : ℕ)
-    : Type 0 where
+pub record AreTakenPieces (original : Image) (most : Option ℕ) (v : FlowGraph) (pieces : List Piece) (loops proved : ℕ) (returns : Bool)
+    (aside : ℕ) : Type 0 where
   pub notes : List LoopNote
   pub file : AreReadAs original v pieces notes aside
-  pub bounds : AreBoundsFound original notes returns
+  pub bounds : AreBoundsFound original most notes returns
   pub loops_are : loops ≡ length notes
   pub proved_are : proved ≡ count_by is_bounded notes
 
 -- the draft of an image's loop file
-pub record IsDraftOf (original : Image) (draft : LoopDraft) : Type 0 where
+pub record IsDraftOf (original : Image) (most : Option ℕ) (draft : LoopDraft) : Type 0 where
   pub graph : FlowGraph
   pub graph_is : IsGraphOf (text_of original) graph
-  pub pieces : AreTakenPieces original graph draft.pieces.items draft.loops draft.proved draft.returns draft.aside
-  -- the file says whether returns are proved
-  pub begins : BeginsWithReturns draft.returns (printed draft.pieces.items)
+  pub pieces : AreTakenPieces original most graph draft.pieces.items draft.loops draft.proved draft.returns draft.aside
+  -- the file says whether returns are proved, and for inputs of how many bytes its bounds are, where that is told
+  pub begins : HasFirstLines most draft.returns (printed draft.pieces.items)
   -- how many loops have no bound
   pub unbounded : draft.unbounded ≡ count_by (λ piece. piece.is_open) draft.pieces.items
   pub aside_fits : draft.aside < 2 ^ 64
@@ -113,23 +113,23 @@ ArePiecesChecked original v pieces notes aside (Ok false) = Unit {0}
 ArePiecesChecked original v pieces notes aside (Err refusal) = ArePiecesRefused original v pieces refusal
 
 -- for bounds, where the file that is made with them has them
-abbrev pub IsDraftTried : Image → FlowGraph → Result (Option LoopDraft) Refusal → Type 0
-IsDraftTried original v (Ok (Some draft)) = IsDraftOf original draft
-IsDraftTried original v (Ok None) = Unit {0}
-IsDraftTried original v (Err refusal) = AreLoopsUndrafted original v refusal
+abbrev pub IsDraftTried : Image → Option ℕ → FlowGraph → Result (Option LoopDraft) Refusal → Type 0
+IsDraftTried original most v (Ok (Some draft)) = IsDraftOf original most draft
+IsDraftTried original most v (Ok None) = Unit {0}
+IsDraftTried original most v (Err refusal) = AreLoopsUndrafted original v refusal
 
 -- for the graph of an image's code
-abbrev pub IsGraphDrafted : Image → FlowGraph → Result LoopDraft Refusal → Type 0
-IsGraphDrafted original v (Ok draft) = IsDraftOf original draft
-IsGraphDrafted original v (Err refusal) = AreLoopsUndrafted original v refusal
+abbrev pub IsGraphDrafted : Image → Option ℕ → FlowGraph → Result LoopDraft Refusal → Type 0
+IsGraphDrafted original most v (Ok draft) = IsDraftOf original most draft
+IsGraphDrafted original most v (Err refusal) = AreLoopsUndrafted original v refusal
 
 -- for the image of a file
-abbrev pub IsDraftedImage : Image → Result LoopDraft Refusal → Type 0
-IsDraftedImage original (Ok draft) = (original.keyed_segment ≡ None) × IsDraftOf original draft
-IsDraftedImage original (Err refusal) = IsImageUndrafted original refusal
+abbrev pub IsDraftedImage : Image → Option ℕ → Result LoopDraft Refusal → Type 0
+IsDraftedImage original most (Ok draft) = (original.keyed_segment ≡ None) × IsDraftOf original most draft
+IsDraftedImage original most (Err refusal) = IsImageUndrafted original refusal
 
 -- the draft, or the first refusal: of the file, or of its image
-abbrev pub IsDrafted : List ℕ → Result LoopDraft Refusal → Type 0
-IsDrafted image (Ok draft) = (original : Image) × (image_of image ≡ Ok original) × IsDraftedImage original (Ok draft)
-IsDrafted image (Err refusal) = (image_of image ≡ Err refusal) ⊎ ((original : Image) × (image_of image ≡ Ok original) ×
-    IsDraftedImage original (Err refusal))
+abbrev pub IsDrafted : List ℕ → Option ℕ → Result LoopDraft Refusal → Type 0
+IsDrafted image most (Ok draft) = (original : Image) × (image_of image ≡ Ok original) × IsDraftedImage original most (Ok draft)
+IsDrafted image most (Err refusal) = (image_of image ≡ Err refusal) ⊎ ((original : Image) × (image_of image ≡ Ok original) ×
+    IsDraftedImage original most (Err refusal))

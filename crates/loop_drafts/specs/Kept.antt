@@ -1,5 +1,5 @@
--- The laws of drafted bounds: what a run of the image keeps.
-use Rattle.std.specs.Prelude.{◌≡◌, ℕ, ◌<◌, ◌≤◌, ◌⊎◌, true, All, List, length, Some, Ok}
+-- The laws of drafted bounds: what a run of the image keeps, on each input that is as short as was told.
+use Rattle.std.specs.Prelude.{◌≡◌, ℕ, ◌<◌, ◌≤◌, ◌⊎◌, true, All, List, length, Option, Some, Ok}
 use Rattle.scale_base.specs.declared.refusal.Refusal.{Refusal}
 use Rattle.scale_base.specs.Image.{Image, image_of}
 use Rattle.scale_base.specs.Run.{run_of}
@@ -9,6 +9,7 @@ use Rattle.cost_theory.specs.Graph.{with_trips}
 use Rattle.graph_runs.specs.KeptRuns.{most_returns, IsKeptUpTo}
 use Rattle.graph_runs.specs.RunTransitions.{returns_so}
 use Rattle.bound_laws.specs.Turning.{with_bounds}
+use Rattle.turn_laws.specs.Relating.{IsInputWithin}
 use Rattle.loop_file.specs.declared.notes.LoopNote.{LoopNote}
 use Rattle.loop_file.specs.Kept.{note_at, noted_loops}
 use Rattle.loop_file.specs.Loops.{read_loops}
@@ -29,14 +30,15 @@ pub record AreFinished (drafted notes : List LoopNote) : Type 0 where
 abbrev pub AreBytes : List ℕ → Type 0
 AreBytes bytes = All (λ x. x < 256) bytes
 
--- A run of the image that is kept by some bounds and least turns is kept by those of a finished draft, where each loop that the user gave a bound
--- has one that is no less, and least turns that are no more: no run breaks a drafted bound, or drafted least turns, before it breaks a return
--- address or what the user wrote.
+-- A run of the image, on an input that is as short as was told, if that was, which is kept by some bounds and least turns is kept by those of a
+-- finished draft, where each loop that the user gave a bound has one that is no less, and least turns that are no more: no such run breaks a drafted
+-- bound, or drafted least turns, before it breaks a return address or what the user wrote.
 abbrev pub DraftedBoundsAreKept : Type 0
-DraftedBoundsAreKept = (file : List ℕ) (draft : LoopDraft) (original : Image) (drafted notes : List LoopNote) (levels : ℕ) (input : List ℕ)
-    (bounds trips : ℕ → ℕ) (n : ℕ) →
-    AreBytes file → IsDrafted file (Ok draft) → image_of file ≡ Ok original →
+DraftedBoundsAreKept = (file : List ℕ) (most : Option ℕ) (draft : LoopDraft) (original : Image) (drafted notes : List LoopNote) (levels : ℕ)
+    (input : List ℕ) (bounds trips : ℕ → ℕ) (n : ℕ) →
+    AreBytes file → IsDrafted file most (Ok draft) → image_of file ≡ Ok original →
     read_loops original (filled_most draft.pieces.items) ≡ Ok drafted → AreFinished drafted notes → AreBytes input →
+    IsInputWithin most input →
     ((k : ℕ) → k < length notes → IsOpen (note_at drafted k) →
     (bounds k ≤ (note_at notes k).bound) × ((note_at notes k).at_least ≤ trips k)) →
     IsKeptUpTo original levels input (with_trips (with_bounds (noted_loops notes) bounds) trips) n →
@@ -45,32 +47,36 @@ DraftedBoundsAreKept = (file : List ℕ) (draft : LoopDraft) (original : Image) 
 -- Where each loop has a drafted bound, the file as it is printed is a loop file that a run keeps if its returns go back to their calls and its
 -- calls are not too deep.
 abbrev pub DraftedFilesNeedReturns : Type 0
-DraftedFilesNeedReturns = (file : List ℕ) (draft : LoopDraft) (original : Image) (levels : ℕ) (input : List ℕ) (n : ℕ) →
-    AreBytes file → AreBytes input → IsDrafted file (Ok draft) → image_of file ≡ Ok original → draft.unbounded ≡ 0 →
+DraftedFilesNeedReturns = (file : List ℕ) (most : Option ℕ) (draft : LoopDraft) (original : Image) (levels : ℕ) (input : List ℕ) (n : ℕ) →
+    AreBytes file → AreBytes input → IsInputWithin most input → IsDrafted file most (Ok draft) → image_of file ≡ Ok original →
+    draft.unbounded ≡ 0 →
     draft.proved ≡ draft.loops →
     ((m : ℕ) → m ≤ n → (rs : List ℕ) × (returns_so (run_of original levels input m).steps ≡ Some rs) × (length rs ≤ most_returns)) →
     (notes : List LoopNote) × (read_loops original (printed draft.pieces.items) ≡ Ok notes) ×
     IsKeptUpTo original levels input (noted_loops notes) n
 
--- Where the draft says so of returns, each return of a run goes back to its call, on each input, and calls are never too deep.
+-- Where the draft says so of returns, each return of a run goes back to its call, on each input, however long, and calls are never too
+-- deep.
 abbrev pub DraftedReturnsGoBack : Type 0
-DraftedReturnsGoBack = (file : List ℕ) (draft : LoopDraft) (original : Image) (levels : ℕ) (input : List ℕ) (n : ℕ) →
-    AreBytes file → AreBytes input → IsDrafted file (Ok draft) → image_of file ≡ Ok original → draft.returns ≡ true →
+DraftedReturnsGoBack = (file : List ℕ) (most : Option ℕ) (draft : LoopDraft) (original : Image) (levels : ℕ) (input : List ℕ) (n : ℕ) →
+    AreBytes file → AreBytes input → IsDrafted file most (Ok draft) → image_of file ≡ Ok original → draft.returns ≡ true →
     (rs : List ℕ) × (returns_so (run_of original levels input n).steps ≡ Some rs) × (length rs ≤ most_returns)
 
--- Where it does, and each loop has a drafted bound, the file as it is printed is a loop file that every run keeps, on each input.
+-- Where it does, and each loop has a drafted bound, the file as it is printed is a loop file that every run keeps, on each input that is as
+-- short as was told.
 abbrev pub DraftedFilesAreKept : Type 0
-DraftedFilesAreKept = (file : List ℕ) (draft : LoopDraft) (original : Image) → AreBytes file → IsDrafted file (Ok draft) →
-    image_of file ≡ Ok original →
+DraftedFilesAreKept = (file : List ℕ) (most : Option ℕ) (draft : LoopDraft) (original : Image) → AreBytes file →
+    IsDrafted file most (Ok draft) → image_of file ≡ Ok original →
     draft.unbounded ≡ 0 → draft.proved ≡ draft.loops → draft.returns ≡ true →
     (notes : List LoopNote) × (read_loops original (printed draft.pieces.items) ≡ Ok notes) ×
-    ((levels : ℕ) (input : List ℕ) (n : ℕ) → AreBytes input → IsKeptUpTo original levels input (noted_loops notes) n)
+    ((levels : ℕ) (input : List ℕ) (n : ℕ) → AreBytes input → IsInputWithin most input →
+    IsKeptUpTo original levels input (noted_loops notes) n)
 
 -- What a draft counts can be counted, whatever bounds are written: where each part of the code that turns is a loop, notes with the headers and ranges of the
 -- draft that count the same loops are refused over no graph of the program for what they count.
 abbrev pub DraftedCountsAreTaken : Type 0
-DraftedCountsAreTaken = (file : List ℕ) (draft : LoopDraft) (original : Image) (drafted notes : List LoopNote) (v : FlowGraph)
-    (tree : LoopView) (refusal : Refusal) →
-    IsDrafted file (Ok draft) → image_of file ≡ Ok original → read_loops original (filled_most draft.pieces.items) ≡ Ok drafted →
+DraftedCountsAreTaken = (file : List ℕ) (most : Option ℕ) (draft : LoopDraft) (original : Image) (drafted notes : List LoopNote)
+    (v : FlowGraph) (tree : LoopView) (refusal : Refusal) →
+    IsDrafted file most (Ok draft) → image_of file ≡ Ok original → read_loops original (filled_most draft.pieces.items) ≡ Ok drafted →
     draft.aside ≡ 0 → HaveOneShape drafted notes → HaveOneCount drafted notes →
     IsGraphOf (text_of original) v → IsTreeOf v notes tree → AreRefused v tree refusal → ⊥

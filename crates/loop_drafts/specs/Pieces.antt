@@ -1,5 +1,5 @@
 -- A drafted loop file in pieces, and the file with the bounds that are missing filled in.
-use Rattle.std.specs.Prelude.{codes, ◌≡◌, ℕ, Bool, true, false, List, [], ◌∷◌, ◌++◌, flat_map, string_bytes, if◌then◌else◌}
+use Rattle.std.specs.Prelude.{codes, ◌≡◌, ℕ, Bool, true, false, List, [], ◌∷◌, ◌++◌, flat_map, string_bytes, if◌then◌else◌, Option, Some, None}
 use Rattle.std.specs.Fmt.{decimal}
 use Rattle.loop_drafts.specs.declared.drafted.Piece.{Piece}
 
@@ -21,11 +21,18 @@ printed pieces = flat_map printed_piece pieces
 abbrev pub filled : ℕ → List Piece → List ℕ
 filled bound pieces = flat_map (filled_piece bound) pieces
 
--- ---- the first line: whether returns are proved to go back
+-- ---- the first lines: whether returns are proved to go back, and how many bytes an input has at most, where that is told
 
 abbrev pub returns_line : Bool → List ℕ
 returns_line true = codes "# returns: proved\n"
 returns_line false = codes "# returns: open\n"
 
-abbrev pub BeginsWithReturns : Bool → List ℕ → Type 0
-BeginsWithReturns returns file = (rest : List ℕ) × (file ≡ returns_line returns ++ rest)
+abbrev pub inputs_line : Option ℕ → List ℕ
+inputs_line None = []
+inputs_line (Some most) = codes "# inputs: at most " ++ decimal most ++ codes " bytes\n"
+
+abbrev pub first_lines : Option ℕ → Bool → List ℕ
+first_lines most returns = returns_line returns ++ inputs_line most
+
+abbrev pub HasFirstLines : Option ℕ → Bool → List ℕ → Type 0
+HasFirstLines most returns file = (rest : List ℕ) × (file ≡ first_lines most returns ++ rest)

@@ -1,5 +1,5 @@
-//! The bounds of loops that the code shows by itself: tables of the registers and of the stack are proposed and checked, then for each loop a counter,
-//! and that returns go back.
+//! The bounds of loops that the code shows by itself, for inputs of so many bytes at most, where that is told: tables of the registers and of the stack
+//! are proposed and checked, then for each loop a counter, and that returns go back.
 
 ghost use Rattle.std.specs.Prelude.{◌≡◌, ◌++◌, ◌∷◌, [], false, IfOk, OnOk};
 ghost use Rattle.code_text.specs.Text.{text_of};
@@ -12,10 +12,11 @@ use crate::counting::dear_loops;
 use crate::draft::{Counter, Draft, Known, Place, Reason, Way};
 use crate::exact::is_exact;
 use crate::least::with_least;
+use crate::left::{counts_input, reads_input};
 use crate::noted::{GREATEST_BOUND, bounded_by};
 use elf_image::ImageView;
 use flow_graph::CodeGraph;
-use loop_counters::{find_certificate, heights_of};
+use loop_counters::{LoopProgram, find_certificate, heights_of};
 use loop_file::{LoopNote, LoopNotes};
 use loop_forest::LoopTree;
 use loop_tree::build_loops;
@@ -114,12 +115,20 @@ fn way_of(certificate: &StackCertificate, factor: u32) -> Way {
     }
 }
 
-// The counter of a certificate.
-fn counter_of(certificate: &StackCertificate) -> Counter {
-    let (place, factor) = match certificate.counter {
+// What turns are counted in, and by which factor that goes up from 0: what is left of the input goes down.
+fn counted_by(certificate: &StackCertificate) -> (Place, u32) {
+    if counts_input(certificate) {
+        return (Place::Input, u32::MAX);
+    }
+    match certificate.counter {
         StackCounter::InRegisters(measure) => (place_of(measure), measure.factor),
         StackCounter::InWord { number, factor, .. } => (Place::StackWord(below(number)), factor),
-    };
+    }
+}
+
+// The counter of a certificate.
+fn counter_of(certificate: &StackCertificate) -> Counter {
+    let (place, factor) = counted_by(certificate);
     Counter {
         place,
         way: way_of(certificate, factor),
@@ -128,18 +137,30 @@ fn counter_of(certificate: &StackCertificate) -> Counter {
     }
 }
 
+// A certificate that is found for a loop, whether the loop is worth counting, and how many bytes an input has at most, where that is told.
+#[derive(Clone, Copy)]
+struct Candidate<'a> {
+    certificate: &'a StackCertificate,
+    counted: bool,
+    most: Option<u32>,
+}
+
 // A loop with a certificate that is found for it: with its bound, where the code confirms it, and with its least turns.
 fn confirmed(
     alloc: Global,
     claim: &StackClaim<'_>,
     note: &LoopNote,
-    certificate: &StackCertificate,
-    counted: bool,
+    candidate: Candidate<'_>,
 ) -> Result<Sought, NoMemory>
     requires { IsStackClaim claim.now }
-    ensures found { IfOk result (λ s. IsFoundBy claim.now s.note) }
+    ensures found { IfOk result (λ s. IsFoundBy candidate.entry.most claim.now s.note) }
     ensures least { IfOk result (λ s. IsLeastFoundBy claim.now s.note) }
 {
+    let Candidate {
+        certificate,
+        counted,
+        most,
+    } = candidate;
     let counter = counter_of(certificate);
     let bound = counter.bound();
     if bound >= GREATEST_BOUND {
@@ -147,7 +168,7 @@ fn confirmed(
     }
     let counted = counted && bound > 1;
     let bounded = bounded_by(alloc, note, bound, counted)?;
-    if !is_shown(claim, &bounded, certificate) {
+    if !is_shown(claim, &bounded, certificate, most) {
         return left_open(alloc, note, Reason::NotConfirmed, counted);
     }
     let turning = with_least(alloc, claim, bounded, certificate)?;
@@ -161,12 +182,14 @@ fn confirmed(
     })
 }
 
-/// What counters are looked for in, and by loop whether counting it costs little of what its turns take.
+/// What counters are looked for in, by loop whether counting it costs little of what its turns take, and how many bytes an input has at most, where that
+/// is told.
 #[derive(Clone, Copy)]
 struct Sources<'a> {
     tree: &'a LoopTree,
     tables: &'a Tables,
     dear: &'a [bool],
+    most: Option<u32>,
 }
 
 impl Sources<'_> {
@@ -177,7 +200,23 @@ impl Sources<'_> {
         claim: &StackClaim<'_>,
         k: usize,
     ) -> Result<Option<StackCertificate>, NoMemory> {
-        find_certificate(alloc, claim, self.tree, self.tables, k)
+        let program = LoopProgram {
+            tree: self.tree,
+            tables: self.tables,
+            most: self.most,
+        };
+        find_certificate(alloc, claim, program, k)
+    }
+
+    // Why loop k of a program has no bound, where nothing is found.
+    fn why_open(&self, claim: &StackClaim<'_>, k: usize) -> Reason
+        requires { IsStackClaim claim.now }
+    {
+        if self.most.is_none() && reads_input(claim, self.tree, k) {
+            Reason::ReadsInput
+        } else {
+            Reason::NoCounter
+        }
     }
 
     // Whether counting the turns of loop k of a program costs little of what they take.
@@ -204,15 +243,20 @@ fn seek(
     k: usize,
 ) -> Result<Sought, NoMemory>
     requires { IsStackClaim claim.now }
-    ensures found { IfOk result (λ s. IsFoundBy claim.now s.note) }
+    ensures found { IfOk result (λ s. IsFoundBy sources.now.most claim.now s.note) }
     ensures least { IfOk result (λ s. IsLeastFoundBy claim.now s.note) }
 {
     match sources.certificate(alloc, claim, k)? {
         Some(certificate) => {
             let counted = sources.is_counted(claim, k, &certificate);
-            confirmed(alloc, claim, note, &certificate, counted)
+            let candidate = Candidate {
+                certificate: &certificate,
+                counted,
+                most: sources.most,
+            };
+            confirmed(alloc, claim, note, candidate)
         }
-        None => left_open(alloc, note, Reason::NoCounter, sources.is_dear(k)),
+        None => left_open(alloc, note, sources.why_open(claim, k), sources.is_dear(k)),
     }
 }
 
@@ -231,7 +275,7 @@ fn seek_or_stop(
     k: usize,
 ) -> Result<Sought, NoMemory>
     requires { IsStackClaim claim.now }
-    ensures found { IfOk result (λ s. IsFoundBy claim.now s.note) }
+    ensures found { IfOk result (λ s. IsFoundBy sources.now.most claim.now s.note) }
     ensures least { IfOk result (λ s. IsLeastFoundBy claim.now s.note) }
 {
     if k >= most_loops(claim.graph) {
@@ -257,7 +301,7 @@ fn seek_all(
     notes: &LoopNotes,
 ) -> Result<Bounds, NoMemory>
     requires { IsStackClaim claim.now }
-    ensures found { IfOk result (λ b. AreFoundBy claim.now b.notes.items) }
+    ensures found { IfOk result (λ b. AreFoundBy sources.now.most claim.now b.notes.items) }
     ensures least { IfOk result (λ b. AreLeastFoundBy claim.now b.notes.items) }
     ensures returns { IfOk result (λ b. AreReturnsFoundBy claim.now b.returns) }
 {
@@ -287,7 +331,7 @@ fn bounds_by(
     notes: &LoopNotes,
 ) -> Result<Bounds, NoMemory>
     requires { IsStackClaim claim.now }
-    ensures found { IfOk result (λ b. AreBoundsFound claim.now.view.now b.notes.items b.returns) }
+    ensures found { IfOk result (λ b. AreBoundsFound claim.now.view.now sources.now.most b.notes.items b.returns) }
 {
     if !is_stack_analysed(claim) {
         return open_all(alloc, notes, Reason::NotAnalysed);
@@ -309,11 +353,12 @@ fn loops_to_count(
     }
 }
 
-// The notes of the loops whose bounds are looked for, and whether some of them may be counted.
+/// The notes of the loops whose bounds are looked for, whether some of them may be counted, and how many bytes an input has at most, where that is told.
 #[derive(Clone, Copy)]
-struct Wanted<'a> {
-    notes: &'a LoopNotes,
-    counts: bool,
+pub struct Wanted<'a> {
+    pub notes: &'a LoopNotes,
+    pub counts: bool,
+    pub most: Option<u32>,
 }
 
 // The bounds of loops that are taken.
@@ -325,7 +370,7 @@ fn bounds_of(
     wanted: Wanted<'_>,
 ) -> Result<Bounds, NoMemory>
     requires { IsGraphOf (text_of view.now) graph.now }
-    ensures found { IfOk result (λ b. AreBoundsFound view.now b.notes.items b.returns) }
+    ensures found { IfOk result (λ b. AreBoundsFound view.now wanted.entry.most b.notes.items b.returns) }
 {
     let tables = analyse_loops(alloc, view, graph, tree)?;
     if !is_sized(graph, &tables.values) || !is_stack_sized(graph, &tables.stack) {
@@ -343,25 +388,25 @@ fn bounds_of(
         tree,
         tables: &tables,
         dear: &dear,
+        most: wanted.most,
     };
     bounds_by(alloc, &claim, &sources, wanted.notes)
 }
 
-/// The bounds of noted loops that the code shows, and whether returns go back; and which loops are to be counted, where some may be. Where the loops aren't taken,
-/// nothing is looked for.
+/// The bounds of noted loops that the code shows, for inputs of so many bytes at most, where that is told, and whether returns go back; and which loops are to be
+/// counted, where some may be. Where the loops aren't taken, nothing is looked for.
 pub fn find_bounds(
     alloc: Global,
     view: &ImageView<'_>,
     graph: &CodeGraph,
-    notes: &LoopNotes,
-    counts: bool,
+    wanted: Wanted<'_>,
 ) -> Result<Bounds, NoMemory>
     requires { IsGraphOf (text_of view.now) graph.now }
-    ensures found { IfOk result (λ b. AreBoundsFound view.now b.notes.items b.returns) }
+    ensures found { IfOk result (λ b. AreBoundsFound view.now wanted.entry.most b.notes.items b.returns) }
 {
-    match build_loops(alloc, graph, notes) {
-        Ok(tree) => bounds_of(alloc, view, graph, &tree, Wanted { notes, counts }),
-        Err(Stop::Refused(_)) => open_all(alloc, notes, Reason::EnteredAside),
+    match build_loops(alloc, graph, wanted.notes) {
+        Ok(tree) => bounds_of(alloc, view, graph, &tree, wanted),
+        Err(Stop::Refused(_)) => open_all(alloc, wanted.notes, Reason::EnteredAside),
         Err(Stop::Memory) => Err(NoMemory),
     }
 }

@@ -6,14 +6,15 @@ use scale_base::NoMemory;
 use std::alloc::Global;
 use std::fmt;
 
-/// What is counted in: a register, how far a register is above another one, the sum of two, or a word of the stack, so many bytes below what x2 had when the
-/// function began.
+/// What is counted in: a register, how far a register is above another one, the sum of two, a word of the stack, so many bytes below what x2 had when the
+/// function began, or what is left of the input.
 #[derive(Clone, Copy)]
 pub enum Place {
     Register(u8),
     Difference(u8, u8),
     Sum(u8, u8),
     StackWord(u32),
+    Input,
 }
 
 /// What each turn of a loop does to a place: it moves it up or down, or takes bits away from it, as a division by a power of 2 does.
@@ -86,6 +87,8 @@ pub enum Reason {
     NotSought,
     /// No register and no word of the stack is found that each turn moves on or divides, within a span that is known at the header.
     NoCounter,
+    /// Nor that, and its turns read the input, of which isn't told how long it may be.
+    ReadsInput,
     /// The span of its counter is too wide for a bound.
     TooWide,
     /// The code doesn't confirm the counter that is found.
@@ -108,6 +111,10 @@ impl fmt::Display for Reason {
                     "no register or stack word is found that each turn moves on or halves, between limits that are known"
                 )
             }
+            Reason::ReadsInput => write!(
+                f,
+                "it reads the input, and may have one with --input-bytes"
+            ),
             Reason::TooWide => write!(f, "the limits of its counter are too far apart"),
             Reason::NotConfirmed => write!(f, "the code doesn't confirm its counter"),
             Reason::EnteredAside => {

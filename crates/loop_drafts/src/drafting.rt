@@ -7,18 +7,18 @@ ghost use Rattle.code_text.specs.Text.{text_of};
 ghost use Rattle.flow_graph.specs.FlowGraph.{IsGraphOf};
 ghost use Rattle.loop_forest.specs.Tree.{IsLoopTree};
 ghost use Rattle.loop_drafts.specs.Bounds.{AreBoundsFound};
-ghost use Rattle.loop_drafts.specs.Pieces.{BeginsWithReturns, printed};
+ghost use Rattle.loop_drafts.specs.Pieces.{HasFirstLines, printed};
 ghost use Rattle.loop_drafts.specs.Countable.{AreCountable, IsCountable};
 ghost use Rattle.loop_drafts.specs.Drafted.{AreTried, AreNotesTaken, ArePiecesRead, ArePiecesChecked, IsDraftTried, IsGraphDrafted, IsDraftedImage, IsDrafted};
 
-use crate::bounds::{Bounds, find_bounds, open_all};
+use crate::bounds::{Bounds, Wanted, find_bounds, open_all};
 use crate::draft::{Reason, unknown};
 use crate::drafted::{LoopDraft, Piece, byte_count, count_open, filled_text};
 use crate::found::FoundLoops;
 use crate::noted::{GREATEST_BOUND, are_wanted, count_bounded};
 use crate::remarks::{Remarks, turns_of};
 use crate::search::find_loops;
-use crate::texts::pieces_of;
+use crate::texts::{FirstLines, pieces_of};
 use code_graph::build_graph;
 use code_names::{Names, names_of};
 use debug_lines::{Lines, lines_of};
@@ -123,7 +123,15 @@ fn read_pieces(alloc: Global, view: &ImageView<'_>, pieces: &[Piece]) -> Result<
     read_loops(alloc, bytes, view)
 }
 
-/// An image with its graph, the loops that are found in it, the names and the source lines of its places, and how the loops turned in runs.
+/// The inputs of a program: some that it is run on, of which comments tell, and how many bytes an input has at most, where that is told.
+#[derive(Clone, Copy)]
+pub struct DraftInputs<'a> {
+    pub items: &'a [Vec<u8>],
+    pub most: Option<u32>,
+}
+
+/// An image with its graph, the loops that are found in it, the names and the source lines of its places, how the loops turned in runs, and how many bytes an input
+/// has at most, where that is told.
 #[derive(Drop)]
 struct Sketch<'a> {
     view: &'a ImageView<'a>,
@@ -132,6 +140,7 @@ struct Sketch<'a> {
     names: Names<'a>,
     lines: Lines<'a>,
     turns: Turns,
+    most: Option<u32>,
 }
 
 // What the comments tell.
@@ -168,21 +177,20 @@ fn check_pieces(
 
 // The pieces with the bounds that are found. Where the file would be long, its comments tell neither source lines nor turns.
 fn pieces_with(alloc: Global, sketch: &Sketch<'_>, bounds: &Bounds) -> Result<Vec<Piece>, NoMemory>
-    ensures { IfOk result (λ pieces. BeginsWithReturns bounds.now.returns (printed pieces.items)) }
+    ensures { IfOk result (λ pieces. HasFirstLines sketch.now.most bounds.now.returns (printed pieces.items)) }
 {
     let remarks = remarks_of(sketch);
     let found = &sketch.found;
-    let pieces = pieces_of(alloc, &remarks, found, &bounds.known, bounds.returns)?;
+    let returns = bounds.returns;
+    let first = FirstLines {
+        returns,
+        most: sketch.most,
+    };
+    let pieces = pieces_of(alloc, &remarks, found, &bounds.known, first)?;
     if byte_count(&pieces) <= MOST_REMARKED {
         return Ok(pieces);
     }
-    pieces_of(
-        alloc,
-        &remarks.brief(),
-        found,
-        &bounds.known,
-        bounds.returns,
-    )
+    pieces_of(alloc, &remarks.brief(), found, &bounds.known, first)
 }
 
 // The draft with the bounds that are found, where its file has them.
@@ -192,8 +200,8 @@ fn draft_bounds(
     bounds: &Bounds,
 ) -> Result<Option<LoopDraft>, Stop>
     requires graph { IsGraphOf (text_of sketch.now.view.now) sketch.now.graph.now }
-    requires found { AreBoundsFound sketch.now.view.now bounds.now.notes.items bounds.now.returns }
-    ensures { AnswersBy (λ draft. draft) result (IsDraftTried sketch.now.view.now sketch.now.graph.now) }
+    requires found { AreBoundsFound sketch.now.view.now sketch.now.most bounds.now.notes.items bounds.now.returns }
+    ensures { AnswersBy (λ draft. draft) result (IsDraftTried sketch.now.view.now sketch.now.most sketch.now.graph.now) }
 {
     let pieces = pieces_with(alloc, sketch, bounds)?;
     if !check_pieces(alloc, sketch, &pieces, &bounds.notes)? {
@@ -213,7 +221,7 @@ fn draft_bounds(
 // The draft without bounds. Nothing is proved of the texts, so that here too it is looked at whether the file has the notes that are wanted. It always has.
 fn draft_open(alloc: Global, sketch: &Sketch<'_>, notes: &LoopNotes) -> Result<LoopDraft, Stop>
     requires { IsGraphOf (text_of sketch.now.view.now) sketch.now.graph.now }
-    ensures { AnswersBy (λ draft. draft) result (IsGraphDrafted sketch.now.view.now sketch.now.graph.now) }
+    ensures { AnswersBy (λ draft. draft) result (IsGraphDrafted sketch.now.view.now sketch.now.most sketch.now.graph.now) }
 {
     let bounds = open_all(alloc, notes, Reason::NotConfirmed)?;
     match draft_bounds(alloc, sketch, &bounds)? {
@@ -230,16 +238,21 @@ fn draft_found(
     counts: bool,
 ) -> Result<Option<LoopDraft>, Stop>
     requires { IsGraphOf (text_of sketch.now.view.now) sketch.now.graph.now }
-    ensures { AnswersBy (λ draft. draft) result (IsDraftTried sketch.now.view.now sketch.now.graph.now) }
+    ensures { AnswersBy (λ draft. draft) result (IsDraftTried sketch.now.view.now sketch.now.most sketch.now.graph.now) }
 {
-    let bounds = find_bounds(alloc, sketch.view, sketch.graph, notes, counts)?;
+    let wanted = Wanted {
+        notes,
+        counts,
+        most: sketch.most,
+    };
+    let bounds = find_bounds(alloc, sketch.view, sketch.graph, wanted)?;
     draft_bounds(alloc, sketch, &bounds)
 }
 
 // The same that counts no loops, or else the draft without bounds.
 fn draft_uncounted(alloc: Global, sketch: &Sketch<'_>, notes: &LoopNotes) -> Result<LoopDraft, Stop>
     requires { IsGraphOf (text_of sketch.now.view.now) sketch.now.graph.now }
-    ensures { AnswersBy (λ draft. draft) result (IsGraphDrafted sketch.now.view.now sketch.now.graph.now) }
+    ensures { AnswersBy (λ draft. draft) result (IsGraphDrafted sketch.now.view.now sketch.now.most sketch.now.graph.now) }
 {
     match draft_found(alloc, sketch, notes, false)? {
         Some(draft) => Ok(draft),
@@ -250,11 +263,15 @@ fn draft_uncounted(alloc: Global, sketch: &Sketch<'_>, notes: &LoopNotes) -> Res
 // The draft of a sketch. Where a rewritten image doesn't take what it counts, none that counts: it always does, since no other loops are proposed.
 fn draft_sketch(alloc: Global, sketch: &Sketch<'_>) -> Result<LoopDraft, Stop>
     requires { IsGraphOf (text_of sketch.now.view.now) sketch.now.graph.now }
-    ensures { AnswersBy (λ draft. draft) result (IsGraphDrafted sketch.now.view.now sketch.now.graph.now) }
+    ensures { AnswersBy (λ draft. draft) result (IsGraphDrafted sketch.now.view.now sketch.now.most sketch.now.graph.now) }
 {
     let known = unknown(alloc, sketch.found.loops.len())?;
     let remarks = remarks_of(sketch).brief();
-    let pieces = pieces_of(alloc, &remarks, &sketch.found, &known, false)?;
+    let first = FirstLines {
+        returns: false,
+        most: sketch.most,
+    };
+    let pieces = pieces_of(alloc, &remarks, &sketch.found, &known, first)?;
     let notes = read_pieces(alloc, sketch.view, &pieces)?;
     match draft_found(alloc, sketch, &notes, true)? {
         Some(draft) => Ok(draft),
@@ -267,12 +284,12 @@ fn draft_graph<'a, P: Progress>(
     alloc: Global,
     view: &'a ImageView<'a>,
     graph: &'a CodeGraph,
-    inputs: &[Vec<u8>],
+    inputs: &DraftInputs<'_>,
     progress: &mut P,
 ) -> Result<LoopDraft, Stop>
     requires plain { view.now.keyed_segment ≡ None }
     requires graph { IsGraphOf (text_of view.now) graph.now }
-    ensures { AnswersBy (λ draft. draft) result (IsGraphDrafted view.now graph.now) }
+    ensures { AnswersBy (λ draft. draft) result (IsGraphDrafted view.now inputs.now.most graph.now) }
 {
     let found = find_loops(alloc, graph)?;
     let count = found.loops.len();
@@ -281,7 +298,7 @@ fn draft_graph<'a, P: Progress>(
     }
     let names = names_of(alloc, view)?;
     let lines = lines_of(alloc, view)?;
-    let turns = turns_of(alloc, view, &found.loops, inputs, progress)?;
+    let turns = turns_of(alloc, view, &found.loops, inputs.items, progress)?;
     let sketch = Sketch {
         view,
         graph,
@@ -289,6 +306,7 @@ fn draft_graph<'a, P: Progress>(
         names,
         lines,
         turns,
+        most: inputs.most,
     };
     draft_sketch(alloc, &sketch)
 }
@@ -297,11 +315,11 @@ fn draft_graph<'a, P: Progress>(
 fn draft_plain<P: Progress>(
     alloc: Global,
     view: &ImageView<'_>,
-    inputs: &[Vec<u8>],
+    inputs: &DraftInputs<'_>,
     progress: &mut P,
 ) -> Result<LoopDraft, Stop>
     requires { view.now.keyed_segment ≡ None }
-    ensures { AnswersBy (λ draft. draft) result (IsDraftedImage view.now) }
+    ensures { AnswersBy (λ draft. draft) result (IsDraftedImage view.now inputs.now.most) }
 {
     let graph = build_graph(alloc, view)?;
     draft_graph(alloc, view, &graph, inputs, progress)
@@ -311,10 +329,10 @@ fn draft_plain<P: Progress>(
 fn draft_image<P: Progress>(
     alloc: Global,
     view: &ImageView<'_>,
-    inputs: &[Vec<u8>],
+    inputs: &DraftInputs<'_>,
     progress: &mut P,
 ) -> Result<LoopDraft, Stop>
-    ensures { AnswersBy (λ draft. draft) result (IsDraftedImage view.now) }
+    ensures { AnswersBy (λ draft. draft) result (IsDraftedImage view.now inputs.now.most) }
 {
     match view.keyed() {
         Some(_) => Err(Stop::Refused(Refusal::AlreadyScaled)),
@@ -325,7 +343,8 @@ fn draft_image<P: Progress>(
 /// The draft of the loop file of an image, or the first refusal, as `hold` has it: of the image, of a keyed segment, and of the reached code; then of more
 /// than 4,096 loops, of a file of more than 1,048,576 bytes, and of loops nested more than 16 deep.
 ///
-/// A loop has a bound where the code shows one by itself, by a register or a word of the stack that each turn moves on. Any other stands without one. With
+/// A loop has a bound where the code shows one by itself, by a register or a word of the stack that each turn moves on, or by the input that each turn reads.
+/// Where it is told how many bytes an input has at most, bounds are for inputs that have no more, and the file says so. Any other loop stands without one. With
 /// any bounds filled in, the loops are taken where no part of the code that turns is entered at several places.
 ///
 /// Comments tell of each loop its source line, where the image has debug lines, and how it turned in the image's runs on the inputs, each of at most 10,000,000
@@ -334,10 +353,10 @@ fn draft_image<P: Progress>(
 pub fn draft_loops<P: Progress>(
     alloc: Global,
     image: &[u8],
-    inputs: &[Vec<u8>],
+    inputs: &DraftInputs<'_>,
     progress: &mut P,
 ) -> Result<LoopDraft, Stop>
-    ensures { AnswersBy (λ draft. draft) result (IsDrafted image.now) }
+    ensures { AnswersBy (λ draft. draft) result (IsDrafted image.now inputs.now.most) }
 {
     let view = read_image(alloc, image)?;
     draft_image(alloc, &view, inputs, progress)

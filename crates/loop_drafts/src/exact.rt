@@ -7,6 +7,7 @@ ghost use Rattle.std.specs.Prelude.{Ok};
 ghost use Rattle.wrapped_intervals.specs.Small.{IsKeptOr};
 ghost use Rattle.stack_tables.specs.Tables.{IsStackClaim};
 
+use crate::left::counts_input;
 use code_text::instr_at;
 use elf_image::ImageView;
 use flow_graph::CodeGraph;
@@ -62,8 +63,8 @@ fn kept(arc: Option<Arc>) -> Option<Arc>
     }
 }
 
-// The instruction at an address. Where there is none, nothing goes on.
-fn instr_or_end(view: &ImageView<'_>, at: u32) -> Instr {
+/// The instruction at an address. Where there is none, nothing goes on.
+pub fn instr_or_end(view: &ImageView<'_>, at: u32) -> Instr {
     let _ranges = view.text();
     match instr_at(view, at) {
         Some(instr) => instr,
@@ -219,11 +220,11 @@ fn body_of(certificate: &StackCertificate) -> &[bool] {
 }
 
 /// Whether a loop with this header and this certificate turns as often each time it is entered, as the tables have it: its counter has one value where it is
-/// entered, and one where it is left.
+/// entered, and one where it is left. Where that is what is left of the input, it doesn't.
 pub fn is_exact(claim: &StackClaim<'_>, header: usize, certificate: &StackCertificate) -> bool
     requires { IsStackClaim claim.now }
 {
-    if begins_function(claim.graph, header) {
+    if counts_input(certificate) || begins_function(claim.graph, header) {
         return false;
     }
     let looped = Looped {

@@ -5,6 +5,7 @@ ghost use Rattle.stack_tables.specs.Tables.{IsStackClaim};
 ghost use Rattle.loop_drafts.specs.Bounds.{NeedNotTurn, turning_by};
 ghost use Rattle.loop_drafts.specs.Sought.{IsLeastFoundBy};
 
+use crate::left::counts_input;
 use crate::noted::turning_by;
 use loop_file::LoopNote;
 use lower_bound_search::{CountedLoop, LowerFound, find_lower};
@@ -38,7 +39,7 @@ fn code_of(certificate: &StackCertificate) -> (&[bool], &[bool]) {
     }
 }
 
-// What is found of a noted loop, by a certificate of its bound.
+// What is found of a noted loop, by a certificate of its bound. Of turns that are counted in the input nothing is: that may end at once.
 fn find(
     alloc: Global,
     claim: &StackClaim<'_>,
@@ -47,6 +48,9 @@ fn find(
 ) -> Result<Option<LowerFound>, NoMemory>
     requires { IsStackClaim claim.now }
 {
+    if counts_input(certificate) {
+        return Ok(None);
+    }
     let Some(header) = claim.graph.find(note.header) else {
         return Ok(None);
     };

@@ -14,13 +14,14 @@ mod drafting;
 mod exact;
 mod found;
 mod least;
+mod left;
 mod noted;
 mod remarks;
 mod search;
 mod texts;
 
 pub use drafted::{LoopDraft, Piece, filled_text, printed_text};
-pub use drafting::draft_loops;
+pub use drafting::{DraftInputs, draft_loops};
 pub use found::{AsidePart, FoundLoop, FoundLoops};
 pub use search::find_loops;
 
@@ -35,15 +36,15 @@ pub fn counts_are_free()
     ensures drafted { DraftedCountsAreTaken }
 {}
 
-/// No run of the image breaks a drafted bound before it breaks a return address or a bound that the user filled in; and where each loop has a drafted
-/// bound, the file as it is printed is kept by each run whose returns go back to their calls.
+/// No run of the image, on an input that is as short as was told, breaks a drafted bound before it breaks a return address or a bound that the user filled
+/// in; and where each loop has a drafted bound, the file as it is printed is kept by each such run whose returns go back to their calls.
 pub fn drafted_bounds_are_kept()
     ensures filled { DraftedBoundsAreKept }
     ensures printed { DraftedFilesNeedReturns }
 {}
 
 /// Where a draft says so of returns, every run goes back to its calls, on each input; and where each loop has a drafted bound as well, every run keeps
-/// the file as it is printed.
+/// the file as it is printed, on each input that is as short as was told.
 pub fn drafted_files_are_kept()
     ensures returns { DraftedReturnsGoBack }
     ensures kept { DraftedFilesAreKept }

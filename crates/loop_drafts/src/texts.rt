@@ -1,7 +1,7 @@
 //! The pieces of a drafted loop file.
 
-ghost use Rattle.std.specs.Prelude.{◌≡◌, IfOk};
-ghost use Rattle.loop_drafts.specs.Pieces.{BeginsWithReturns, printed, printed_piece, returns_line};
+ghost use Rattle.std.specs.Prelude.{◌≡◌, ◌++◌, IfOk, OnOk, string_bytes};
+ghost use Rattle.loop_drafts.specs.Pieces.{HasFirstLines, first_lines, inputs_line, printed, printed_piece, returns_line};
 
 use crate::draft::{Counter, Draft, Known, Place, Way};
 use crate::drafted::Piece;
@@ -89,21 +89,6 @@ fn push_head(
     write!(text, ", depth {depth}\n")
 }
 
-// Adds what a loop counts in, as a disassembly shows it. A frame pointer has what x2 had when the function began.
-fn push_counted(text: &mut String, place: Place) -> Result<(), AllocError> {
-    match place {
-        Place::Register(register) => write!(text, "# x{register}"),
-        Place::Difference(one, other) => write!(text, "# x{one} - x{other}"),
-        Place::Sum(one, other) => write!(text, "# x{one} + x{other}"),
-        Place::StackWord(below) => {
-            write!(
-                text,
-                "# the stack word {below} bytes below the caller's sp (-{below}(s0) with a frame pointer)"
-            )
-        }
-    }
-}
-
 // Adds what each turn does to what is counted in, and what that is at the header.
 fn push_way(text: &mut String, counter: Counter) -> Result<(), AllocError> {
     let Counter { step, width, .. } = counter;
@@ -124,14 +109,37 @@ fn push_way(text: &mut String, counter: Counter) -> Result<(), AllocError> {
     }
 }
 
+// Adds how much each turn reads, and how many bytes an input has.
+fn push_read(text: &mut String, counter: Counter) -> Result<(), AllocError> {
+    let Counter { step, width, .. } = counter;
+    write!(
+        text,
+        "# each turn reads {step} bytes or more, and an input has at most {width}"
+    )
+}
+
+// Adds what a loop counts in, as a disassembly shows it, and what each turn does to it. A frame pointer has what x2 had when the function began.
+fn push_counted(text: &mut String, counter: Counter) -> Result<(), AllocError> {
+    match counter.place {
+        Place::Register(register) => write!(text, "# x{register}")?,
+        Place::Difference(one, other) => write!(text, "# x{one} - x{other}")?,
+        Place::Sum(one, other) => write!(text, "# x{one} + x{other}")?,
+        Place::StackWord(below) => write!(
+            text,
+            "# the stack word {below} bytes below the caller's sp (-{below}(s0) with a frame pointer)"
+        )?,
+        Place::Input => return push_read(text, counter),
+    }
+    push_way(text, counter)
+}
+
 // Adds the bound of a counter, and why it is one.
 fn push_bound(text: &mut String, counter: Counter) -> Result<(), AllocError> {
     let bound = counter.bound();
     if bound == 0 {
         return text.push_str("# no entry takes a back edge\nbound = 0\n");
     }
-    push_counted(text, counter.place)?;
-    push_way(text, counter)?;
+    push_counted(text, counter)?;
     write!(text, "\nbound = {bound}\n")
 }
 
@@ -219,12 +227,31 @@ fn returns_line(returns: bool) -> &'static str
     }
 }
 
-// The piece that begins the file.
-fn returns_piece(alloc: Global, returns: bool) -> Result<Piece, NoMemory>
-    ensures { IfOk result (λ piece. printed_piece piece ≡ returns_line returns) }
+/// What the first lines tell: whether returns are proved to go back, and how many bytes an input has at most, where that is told.
+#[derive(Clone, Copy)]
+pub struct FirstLines {
+    pub returns: bool,
+    pub most: Option<u32>,
+}
+
+// Adds the line that tells how many bytes an input has at most, where that is told.
+fn push_most(text: &mut String, most: Option<u32>) -> Result<(), AllocError>
+    ensures { OnOk result (string_bytes text.new ≡ string_bytes text.old ++ inputs_line most) }
 {
+    match most {
+        Some(most) => write!(text, "# inputs: at most {most} bytes\n"),
+        None => Ok(()),
+    }
+}
+
+// The piece that begins the file.
+fn first_piece(alloc: Global, first: FirstLines) -> Result<Piece, NoMemory>
+    ensures { IfOk result (λ piece. printed_piece piece ≡ first_lines first.most first.returns) }
+{
+    let mut text = String::from_str(alloc, returns_line(first.returns))?;
+    push_most(&mut text, first.most)?;
     Ok(Piece {
-        text: String::from_str(alloc, returns_line(returns))?,
+        text,
         is_open: false,
     })
 }
@@ -283,17 +310,17 @@ fn loop_pieces(
     Ok(pieces)
 }
 
-/// The pieces of the loops that are found, with what is known of each and of returns.
+/// The pieces of the loops that are found, with what is known of each and what the first lines tell.
 pub fn pieces_of(
     alloc: Global,
     remarks: &Remarks<'_>,
     found: &FoundLoops,
     known: &[Known],
-    returns: bool,
+    first: FirstLines,
 ) -> Result<Vec<Piece>, NoMemory>
-    ensures { IfOk result (λ pieces. BeginsWithReturns returns (printed pieces.items)) }
+    ensures { IfOk result (λ pieces. HasFirstLines first.most first.returns (printed pieces.items)) }
 {
-    let first = returns_piece(alloc, returns)?;
+    let first = first_piece(alloc, first)?;
     let mut pieces = loop_pieces(alloc, remarks, found, known)?;
     pieces.insert(0, first)?;
     Ok(pieces)

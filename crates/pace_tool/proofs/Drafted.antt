@@ -1,6 +1,6 @@
 -- A drafted loop file keeps what it promises.
 use Rattle.std.proofs.Common.{◌≡◌, ◌<◌, ◌≤◌, ◌+◌, ℕ, List, [], ◌∷◌, ◌++◌, length, Bool, true, false, inl, inr, refl, sym, ap, subst, ◌∙◌, arith, length-append, append-nil}
-use Rattle.std.specs.Prelude.{count_by, if◌then◌else◌, Ok}
+use Rattle.std.specs.Prelude.{count_by, if◌then◌else◌, Option, Ok}
 use Rattle.std.proofs.lemmas.List.Sums.{sum_by-cons}
 use Rattle.scale_base.specs.Image.{Image}
 use Rattle.code_text.specs.Text.{text_of}
@@ -14,7 +14,7 @@ use Rattle.loop_drafts.specs.declared.drafted.LoopDraft.{LoopDraft}
 use Rattle.loop_drafts.specs.Bounds.{most_turns}
 use Rattle.loop_drafts.specs.Drafted.{AreTaken, IsDraftOf, IsDrafted, filled_most}
 use Rattle.loop_drafts.specs.Kept.{AreBytes}
-use Rattle.loop_drafts.specs.Pieces.{BeginsWithReturns, bound_line, filled, filled_piece, printed, printed_piece}
+use Rattle.loop_drafts.specs.Pieces.{HasFirstLines, bound_line, filled, filled_piece, printed, printed_piece}
 use Rattle.loop_drafts.specs.Shapes.{HaveOneShape}
 use Rattle.loop_drafts.proofs.Laws.{bounds_free, bounds_kept, files_kept, files_need_returns, returns_go_back}
 use Rattle.version_fits.proofs.Laws.{printed_short, printed_shorter}
@@ -46,7 +46,7 @@ loops_taken : (original : Image) (v : FlowGraph) (notes : List LoopNote) (aside 
 loops_taken original v notes aside graph (inl tried) none = record { graph = v; graph_is = graph; tree = tried.0; tree_is = tried.1 }
 loops_taken original v notes aside graph (inr turns) none = let some : 0 < aside = turns.0 in absurd (omega arith)
 
-module _ (original : Image) (draft : LoopDraft) (of : IsDraftOf original draft) where
+module _ (original : Image) (most : Option ℕ) (draft : LoopDraft) (of : IsDraftOf original most draft) where
   whole_file : (stored : List ℕ) → stored ≡ printed draft.pieces.items → draft.unbounded ≡ 0 → IsLoopFile original draft stored
   whole_file stored is none = record {
     notes = of.pieces.notes;
@@ -64,43 +64,43 @@ module _ (original : Image) (draft : LoopDraft) (of : IsDraftOf original draft) 
       let same : HaveOneShape of.pieces.notes notes = subst (λ (drafted : List LoopNote). HaveOneShape drafted notes) one is.shape in
       λ v refusal graph built. bounds_free (text_of original) its.graph v of.pieces.notes notes its.tree refusal its.graph_is graph same its.tree_is built
 
-module _ (image stored : List ℕ) (bytes : AreBytes image) (draft : LoopDraft) (file : IsDraftFile image stored draft) where
+module _ (image : List ℕ) (most : Option ℕ) (stored : List ℕ) (bytes : AreBytes image) (draft : LoopDraft) (file : IsDraftFile image most stored draft) where
   abbrev original : Image
   original = file.drafted.0
 
-  kept_by_returns : draft.unbounded ≡ 0 → draft.proved ≡ draft.loops → IsKeptByReturns original stored
-  kept_by_returns none all notes read levels input n are back =
-      let law = files_need_returns image draft original levels input n bytes are file.drafted file.drafted.1 none all back in
+  kept_by_returns : draft.unbounded ≡ 0 → draft.proved ≡ draft.loops → IsKeptByReturns original most stored
+  kept_by_returns none all notes read levels input n are within back =
+      let law = files_need_returns image most draft original levels input n bytes are within file.drafted file.drafted.1 none all back in
       let its : read_loops original stored ≡ Ok law.0 = ap (read_loops original) file.is_printed ∙ law.1 in
       let one : law.0 ≡ notes = cc in
       subst (λ (ns : List LoopNote). IsKeptUpTo original levels input (noted_loops ns) n) one law.2
 
   goes_back : draft.returns ≡ true → AlwaysGoesBack original
-  goes_back proved levels input n are m le = returns_go_back image draft original levels input m bytes are file.drafted file.drafted.1 proved
+  goes_back proved levels input n are m le = returns_go_back image most draft original levels input m bytes are file.drafted file.drafted.1 proved
 
-  kept_always : draft.unbounded ≡ 0 → draft.proved ≡ draft.loops → draft.returns ≡ true → IsKeptAlways original stored
-  kept_always none all proved notes read levels input n are =
-      let law = files_kept image draft original bytes file.drafted file.drafted.1 none all proved in
+  kept_always : draft.unbounded ≡ 0 → draft.proved ≡ draft.loops → draft.returns ≡ true → IsKeptAlways original most stored
+  kept_always none all proved notes read levels input n are within =
+      let law = files_kept image most draft original bytes file.drafted file.drafted.1 none all proved in
       let its : read_loops original stored ≡ Ok law.0 = ap (read_loops original) file.is_printed ∙ law.1 in
       let one : law.0 ≡ notes = cc in
-      subst (λ (ns : List LoopNote). IsKeptUpTo original levels input (noted_loops ns) n) one (law.2 levels input n are)
+      subst (λ (ns : List LoopNote). IsKeptUpTo original levels input (noted_loops ns) n) one (law.2 levels input n are within)
 
-  kept_by_written : (finished : List ℕ) (notes : List LoopNote) (is : IsFinishedFile original draft finished notes) → IsKeptByWritten original is.drafted notes
-  kept_by_written finished notes is levels input bounds trips n are low kept =
-      bounds_kept image draft original is.drafted notes levels input bounds trips n bytes file.drafted file.drafted.1 is.drafted_are is.finished are low kept
+  kept_by_written : (finished : List ℕ) (notes : List LoopNote) (is : IsFinishedFile original draft finished notes) → IsKeptByWritten original most is.drafted notes
+  kept_by_written finished notes is levels input bounds trips n are within low kept =
+      bounds_kept image most draft original is.drafted notes levels input bounds trips n bytes file.drafted file.drafted.1 is.drafted_are is.finished are within low kept
 
-  pub drafted_safely : IsDraftedSafely image stored draft
+  pub drafted_safely : IsDraftedSafely image most stored draft
   drafted_safely =
-      let of : IsDraftOf original draft = file.drafted.2.1 in
+      let of : IsDraftOf original most draft = file.drafted.2.1 in
       record {
         original = original;
         is_image = file.drafted.1;
         short = let shorter = printed_shorter most_turns draft.pieces.items in let low : length (filled_most draft.pieces.items) ≤ 1048576 = of.pieces.file.short in let size = ap length file.is_printed in omega arith;
-        whole = whole_file original draft of stored file.is_printed;
+        whole = whole_file original most draft of stored file.is_printed;
         kept = kept_by_returns;
-        begins = subst (BeginsWithReturns draft.returns) (sym file.is_printed) of.begins;
+        begins = subst (HasFirstLines most draft.returns) (sym file.is_printed) of.begins;
         goes_back = goes_back;
         premise_free = kept_always;
-        taken = finished_taken original draft of;
+        taken = finished_taken original most draft of;
         finished = kept_by_written;
       }

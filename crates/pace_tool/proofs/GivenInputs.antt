@@ -21,36 +21,38 @@ pub record AreSplit (n : ℕ) (limits : List ℕ) (names : List (List ℕ)) (fil
   pub count : length (drop n files) ≡ length names
   pub short : All (λ input. length input.items ≤ 1048576) (drop n files)
 
-inputs_count : (names : List (List ℕ)) (files : List (Vec ℕ Global)) → AreWanted (input_wants names) files → length files ≡ length names
-inputs_count [] [] are = refl
-inputs_count [] (file ∷ files) are = absurd are
-inputs_count (name ∷ names) [] are = absurd are
-inputs_count (name ∷ names) (file ∷ files) are = ap suc (inputs_count names files are.1)
+inputs_count : (limit : ℕ) (names : List (List ℕ)) (files : List (Vec ℕ Global)) → AreWanted (input_wants limit names) files → length files ≡ length names
+inputs_count limit [] [] are = refl
+inputs_count limit [] (file ∷ files) are = absurd are
+inputs_count limit (name ∷ names) [] are = absurd are
+inputs_count limit (name ∷ names) (file ∷ files) are = ap suc (inputs_count limit names files are.1)
 
-inputs_short : (names : List (List ℕ)) (files : List (Vec ℕ Global)) → AreWanted (input_wants names) files → All (λ input. length input.items ≤ 1048576) files
-inputs_short [] [] are = All-nil (λ input. length input.items ≤ 1048576)
-inputs_short [] (file ∷ files) are = absurd are
-inputs_short (name ∷ names) [] are = absurd are
-inputs_short (name ∷ names) (file ∷ files) are = All-cons (λ input. length input.items ≤ 1048576) file files are.0 (inputs_short names files are.1)
+inputs_short : (limit : ℕ) → limit ≤ 1048576 → (names : List (List ℕ)) (files : List (Vec ℕ Global)) → AreWanted (input_wants limit names) files → All (λ input. length input.items ≤ 1048576) files
+inputs_short limit low [] [] are = All-nil (λ input. length input.items ≤ 1048576)
+inputs_short limit low [] (file ∷ files) are = absurd are
+inputs_short limit low (name ∷ names) [] are = absurd are
+inputs_short limit low (name ∷ names) (file ∷ files) are =
+    let first : length file.items ≤ limit = are.0 in
+    All-cons (λ input. length input.items ≤ 1048576) file files (omega (arith, first, low)) (inputs_short limit low names files are.1)
 
-module _ (names : List (List ℕ)) where
-  pub three_first : (image machine loops : List ℕ × ℕ) (files : List (Vec ℕ Global)) → AreWanted (image ∷ machine ∷ loops ∷ input_wants names) files → AreSplit 3 (image.1 ∷ machine.1 ∷ loops.1 ∷ []) names files
+module _ (limit : ℕ) (low : limit ≤ 1048576) (names : List (List ℕ)) where
+  pub three_first : (image machine loops : List ℕ × ℕ) (files : List (Vec ℕ Global)) → AreWanted (image ∷ machine ∷ loops ∷ input_wants limit names) files → AreSplit 3 (image.1 ∷ machine.1 ∷ loops.1 ∷ []) names files
   three_first image machine loops (i ∷ m ∷ l ∷ inputs) are = record {
     enough = omega arith;
     first = (are.0, (are.1.0, (are.1.1.0, tt)));
-    count = inputs_count names inputs are.1.1.1;
-    short = inputs_short names inputs are.1.1.1;
+    count = inputs_count limit names inputs are.1.1.1;
+    short = inputs_short limit low names inputs are.1.1.1;
   }
   three_first image machine loops [] are = absurd are
   three_first image machine loops (i ∷ []) are = absurd are.1
   three_first image machine loops (i ∷ m ∷ []) are = absurd are.1.1
 
-  pub two_first : (image machine : List ℕ × ℕ) (files : List (Vec ℕ Global)) → AreWanted (image ∷ machine ∷ input_wants names) files → AreSplit 2 (image.1 ∷ machine.1 ∷ []) names files
+  pub two_first : (image machine : List ℕ × ℕ) (files : List (Vec ℕ Global)) → AreWanted (image ∷ machine ∷ input_wants limit names) files → AreSplit 2 (image.1 ∷ machine.1 ∷ []) names files
   two_first image machine (i ∷ m ∷ inputs) are = record {
     enough = omega arith;
     first = (are.0, (are.1.0, tt));
-    count = inputs_count names inputs are.1.1;
-    short = inputs_short names inputs are.1.1;
+    count = inputs_count limit names inputs are.1.1;
+    short = inputs_short limit low names inputs are.1.1;
   }
   two_first image machine [] are = absurd are
   two_first image machine (i ∷ []) are = absurd are.1

@@ -111,7 +111,7 @@ jumps_apart image given refusal drafted (inr scaled) =
 one_made : (command : Command) → has_one_status command ≡ true → (files : List (List ℕ)) (one other : Answer) → Makes command files one → Makes command files other → one.status ≡ other.status
 one_made (Fit image machine loops out inputs) pinned (i ∷ m ∷ l ∷ given) one other x y = one_fit i m l out given one other x y
 one_made (Show image machine loops) pinned (i ∷ m ∷ l ∷ []) one other x y = runs.one_told (AreReasons i m l) (text_answer reasons_text) (text_same (AreReasons i m l) (reasons_apart i m l) reasons_text) one other x y
-one_made (Loops image out inputs) pinned files one other x y = absurd (cc)
+one_made (Loops image out most inputs) pinned files one other x y = absurd (cc)
 one_made (Explain image machine loops) pinned (i ∷ m ∷ l ∷ []) one other x y =
     runs.one_told (AreExplained i m l) (text_answer explained_text) (text_same (AreExplained i m l) (explained_apart i m l) explained_text) one other x y
 one_made (DrawRun machine out names) pinned (m ∷ given) one other x y =
@@ -120,7 +120,7 @@ one_made (DrawPlan image machine loops out) pinned (i ∷ m ∷ l ∷ []) one ot
     runs.one_told (DrawsPlan i m l) (stored_answer plan_text out) (file_same (DrawsPlan i m l) (plan_apart i m l) plan_text out) one other x y
 one_made (Jumps image out) pinned (i ∷ []) one other x y =
     runs.one_told (DraftsJumps i) (stored_answer jumps_text out) (file_same (DraftsJumps i) (jumps_apart i) jumps_text out) one other x y
-one_made (InOne image machine out versions inputs) pinned files one other x y = absurd (cc)
+one_made (InOne image machine out versions most inputs) pinned files one other x y = absurd (cc)
 one_made command pinned files one other x y = absurd x
 
 -- a status that was answered is that of every answer, where there is one
@@ -133,12 +133,12 @@ status_of_all command status old new pinned = runs.status_of_all (wants_of comma
 status_small : (command : Command) (files : List (List ℕ)) (answer : Answer) → Makes command files answer → nat_le answer.status 1 ≡ true
 status_small (Fit image machine loops out inputs) (i ∷ m ∷ l ∷ given) answer x = fit_small i m l given out answer x
 status_small (Show image machine loops) (i ∷ m ∷ l ∷ []) answer x = text_told (AreReasons i m l) reasons_text answer x
-status_small (Loops image out inputs) (i ∷ given) answer x = file_told (Drafts i) drafted_text out answer x.1
+status_small (Loops image out most inputs) (i ∷ given) answer x = file_told (Drafts i most) drafted_text out answer x.1
 status_small (Explain image machine loops) (i ∷ m ∷ l ∷ []) answer x = text_told (AreExplained i m l) explained_text answer x
 status_small (DrawRun machine out names) (m ∷ given) answer x = file_told (DrawsRuns m names given) picture_text out answer x
 status_small (DrawPlan image machine loops out) (i ∷ m ∷ l ∷ []) answer x = file_told (DrawsPlan i m l) plan_text out answer x
 status_small (Jumps image out) (i ∷ []) answer x = file_told (DraftsJumps i) jumps_text out answer x
-status_small (InOne image machine out versions inputs) (i ∷ m ∷ given) answer x = in_one_small i m given versions out answer x.1
+status_small (InOne image machine out versions most inputs) (i ∷ m ∷ given) answer x = in_one_small i m most given versions out answer x.1
 status_small command files answer x = absurd x
 
 -- a reply has a status that may be given

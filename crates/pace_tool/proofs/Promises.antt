@@ -24,14 +24,14 @@ kept : (command : Command) (loaded : List (List ℕ)) (files : Files) (answer : 
 kept (Fit image machine loops out inputs) (i ∷ m ∷ l ∷ given) files answer within made done = fit_kept i m l given out files answer made done
 kept (Fit image machine loops out inputs) loaded files answer within made done = absurd made
 kept (Show image machine loops) loaded files answer within made done = tt
-kept (Loops image out inputs) (i ∷ given) files answer within made done = runs.stored_kept (Drafts i) (IsDraftedSafely i) drafted_text out files (λ stored draft is. drafted_safely i stored made.0 draft is) answer made.1 done
-kept (Loops image out inputs) loaded files answer within made done = absurd made
+kept (Loops image out most inputs) (i ∷ given) files answer within made done = runs.stored_kept (Drafts i most) (IsDraftedSafely i most) drafted_text out files (λ stored draft is. drafted_safely i most stored made.0 draft is) answer made.1 done
+kept (Loops image out most inputs) loaded files answer within made done = absurd made
 kept (Explain image machine loops) loaded files answer within made done = tt
 kept (DrawRun machine out names) loaded files answer within made done = tt
 kept (DrawPlan image machine loops out) loaded files answer within made done = tt
 kept (Jumps image out) loaded files answer within made done = tt
-kept (InOne image machine out versions inputs) (i ∷ m ∷ given) files answer within made done = in_one_kept i m out given versions files answer made.0 within.0 done made.1
-kept (InOne image machine out versions inputs) loaded files answer within made done = absurd made
+kept (InOne image machine out versions most inputs) (i ∷ m ∷ given) files answer within made done = in_one_kept i m out most given versions files answer made.0 within.0 done made.1
+kept (InOne image machine out versions most inputs) loaded files answer within made done = absurd made
 
 -- stores that stand keep their promise, whatever was answered
 pub stored_keep_promise : (command : Command) (old new : HostState) → StoresStand (wants_of command) (Makes command) old new → Promised (wants_of command) (Promise command) old new

@@ -1,6 +1,6 @@
 -- What is told step by step is the answer to `all`.
 use Rattle.std.proofs.Common.{◌≡◌, ◌∙◌, ◌++◌, ◌<◌, ◌≤◌, ℕ, List, length, inl, inr, ap, subst}
-use Rattle.std.specs.Prelude.{Bool, IfOk, Result, Ok, Err}
+use Rattle.std.specs.Prelude.{Bool, IfOk, Option, Result, Ok, Err}
 use Rattle.scale_base.specs.declared.refusal.NoMemory.{NoMemory}
 use Rattle.scale_base.specs.declared.refusal.Refusal.{Refusal}
 use Rattle.scale_base.specs.declared.refusal.Refusal.TheVariants.{TooLarge}
@@ -24,26 +24,26 @@ pub so_replies : (P Q : Answer → Type 0) (result : Result Reply NoMemory) → 
 so_replies P Q (Ok reply) so told = so (reply_view reply) told
 so_replies P Q (Err no_memory) so told = tt
 
-module _ (machine out : List ℕ) (inputs : List (List ℕ)) where
+module _ (machine out : List ℕ) (most : Option ℕ) (inputs : List (List ℕ)) where
   pub in_one_told : (image : List ℕ) (versions : Bool) (plain : Result (List ℕ × List ℕ) Refusal) (result : Result Reply NoMemory) → MakesPlain image plain →
-      Replies (MakesOfPlain machine out inputs versions plain) result → Replies (MakesInOne image machine inputs versions out) result
+      Replies (MakesOfPlain machine out most inputs versions plain) result → Replies (MakesInOne image machine most inputs versions out) result
   in_one_told image versions plain result is told =
-      so_replies (MakesOfPlain machine out inputs versions plain) (MakesInOne image machine inputs versions out) result (λ answer made. record { plain = plain; is_plain = is; made = made }) told
+      so_replies (MakesOfPlain machine out most inputs versions plain) (MakesInOne image machine most inputs versions out) result (λ answer made. record { plain = plain; is_plain = is; made = made }) told
 
-  pub made_told : (image : List ℕ) (versions : Bool) (result : Result Reply NoMemory) → AreBytes image → Replies (MakesInOne image machine inputs versions out) result →
-      Replies (λ answer. AreBytes image × MakesInOne image machine inputs versions out answer) result
+  pub made_told : (image : List ℕ) (versions : Bool) (result : Result Reply NoMemory) → AreBytes image → Replies (MakesInOne image machine most inputs versions out) result →
+      Replies (λ answer. AreBytes image × MakesInOne image machine most inputs versions out answer) result
   made_told image versions result bytes told =
-      so_replies (MakesInOne image machine inputs versions out) (λ answer. AreBytes image × MakesInOne image machine inputs versions out answer) result (λ answer made. (bytes, made)) told
+      so_replies (MakesInOne image machine most inputs versions out) (λ answer. AreBytes image × MakesInOne image machine most inputs versions out answer) result (λ answer made. (bytes, made)) told
 
-  pub tried_told : (versions : Bool) (plain text tried told_text : List ℕ) (result : Result Reply NoMemory) → IsTried machine inputs versions plain tried told_text →
-      Replies (MakesOfTried machine out inputs tried (text ++ told_text)) result → Replies (MakesOfPlain machine out inputs versions (Ok ((plain, text)))) result
+  pub tried_told : (versions : Bool) (plain text tried told_text : List ℕ) (result : Result Reply NoMemory) → IsTried machine most inputs versions plain tried told_text →
+      Replies (MakesOfTried machine out most inputs tried (text ++ told_text)) result → Replies (MakesOfPlain machine out most inputs versions (Ok ((plain, text)))) result
   tried_told versions plain text tried told_text result is told =
-      so_replies (MakesOfTried machine out inputs tried (text ++ told_text)) (MakesOfPlain machine out inputs versions (Ok ((plain, text)))) result (λ answer made. (tried, told_text, is, made)) told
+      so_replies (MakesOfTried machine out most inputs tried (text ++ told_text)) (MakesOfPlain machine out most inputs versions (Ok ((plain, text)))) result (λ answer made. (tried, told_text, is, made)) told
 
-  pub plain_told : (image text : List ℕ) (drafted : Result (List ℕ × LoopDraft) Refusal) (result : Result Reply NoMemory) → AreBytes image → Drafts image drafted →
-      Replies (MakesDrafted machine out inputs image text drafted) result → Replies (MakesOfTried machine out inputs image text) result
+  pub plain_told : (image text : List ℕ) (drafted : Result (List ℕ × LoopDraft) Refusal) (result : Result Reply NoMemory) → AreBytes image → Drafts image most drafted →
+      Replies (MakesDrafted machine out inputs image text drafted) result → Replies (MakesOfTried machine out most inputs image text) result
   plain_told image text drafted result bytes is told =
-      so_replies (MakesDrafted machine out inputs image text drafted) (MakesOfTried machine out inputs image text) result (λ answer made. (bytes, (drafted, is, made))) told
+      so_replies (MakesDrafted machine out inputs image text drafted) (MakesOfTried machine out most inputs image text) result (λ answer made. (bytes, (drafted, is, made))) told
 
   -- where a loop is open
   pub open_told : (image text told_text : List ℕ) (draft : LoopDraft) (result : Result Reply NoMemory) → 0 < draft.unbounded → told_text ≡ text ++ drafted_text draft →

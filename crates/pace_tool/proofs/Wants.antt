@@ -9,23 +9,24 @@ use Rattle.host_runs.specs.Views.{want_views}
 use Rattle.pace_tool.specs.Command.{input_wants}
 use Rattle.pace_tool.specs.Views.{texts, want_view}
 
--- ---- inputs
+-- ---- inputs, each within a limit
 
-abbrev wanted : List ℕ → List ℕ × ℕ
-wanted name = (name, 1048576)
+module _ (limit : ℕ) where
+  abbrev wanted : List ℕ → List ℕ × ℕ
+  wanted name = (name, limit)
 
-input_of : (inputs : List (Bor (List ℕ))) (k : ℕ) → slice_get (input_wants (texts inputs)) k ≡ option_map wanted (option_map (λ word. word.now) (slice_get inputs k))
-input_of inputs k = slice_get-map wanted (texts inputs) k ∙ ap (option_map wanted) (slice_get-map (λ word. word.now) inputs k)
+  input_of : (inputs : List (Bor (List ℕ))) (k : ℕ) → slice_get (input_wants limit (texts inputs)) k ≡ option_map wanted (option_map (λ word. word.now) (slice_get inputs k))
+  input_of inputs k = slice_get-map wanted (texts inputs) k ∙ ap (option_map wanted) (slice_get-map (λ word. word.now) inputs k)
 
-pub input_read : (inputs : List (Bor (List ℕ))) (k : ℕ) (d : Bor (List ℕ)) (want : Want) → k < length inputs → want.name.now ≡ (get_or inputs k d).now → want.limit ≡ 1048576 →
-    Some (want_view want) ≡ slice_get (input_wants (texts inputs)) k
-input_read inputs k d want h name limit =
-    let is : want_view want ≡ wanted (get_or inputs k d).now = λ i. (name i, limit i) in
-    ap (λ (w : List ℕ × ℕ). Some w) is
-    ∙ sym (input_of inputs k ∙ ap (λ (o : Option (Bor (List ℕ))). option_map wanted (option_map (λ word. word.now) o)) (slice_get-get_or inputs k d h))
+  pub input_read : (inputs : List (Bor (List ℕ))) (k : ℕ) (d : Bor (List ℕ)) (want : Want) → k < length inputs → want.name.now ≡ (get_or inputs k d).now → want.limit ≡ limit →
+      Some (want_view want) ≡ slice_get (input_wants limit (texts inputs)) k
+  input_read inputs k d want h name same =
+      let is : want_view want ≡ wanted (get_or inputs k d).now = λ i. (name i, same i) in
+      ap (λ (w : List ℕ × ℕ). Some w) is
+      ∙ sym (input_of inputs k ∙ ap (λ (o : Option (Bor (List ℕ))). option_map wanted (option_map (λ word. word.now) o)) (slice_get-get_or inputs k d h))
 
-pub input_missed : (inputs : List (Bor (List ℕ))) (k : ℕ) → length inputs ≤ k → None ≡ slice_get (input_wants (texts inputs)) k
-input_missed inputs k h = sym (input_of inputs k ∙ ap (λ (o : Option (Bor (List ℕ))). option_map wanted (option_map (λ word. word.now) o)) (slice_get_past inputs k h))
+  pub input_missed : (inputs : List (Bor (List ℕ))) (k : ℕ) → length inputs ≤ k → None ≡ slice_get (input_wants limit (texts inputs)) k
+  input_missed inputs k h = sym (input_of inputs k ∙ ap (λ (o : Option (Bor (List ℕ))). option_map wanted (option_map (λ word. word.now) o)) (slice_get_past inputs k h))
 
 -- ---- all of them, one after another
 

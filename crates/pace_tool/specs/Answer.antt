@@ -25,14 +25,14 @@ DraftsJumps image (Ok given) = AreJumpsDrafted image (Ok given.1) × (given.0 �
 DraftsJumps image (Err refusal) = AreJumpsDrafted image (Err refusal)
 
 -- What the command may make of its files, as many as it loads. It is told of what it gives for their bytes. `loops` and `all` take an image of bytes, since what they promise is
--- said of bytes; of the inputs of `loops` comments of the file tell alone.
+-- said of bytes; of the inputs of `loops` comments of the file tell alone. Both may be told how many bytes an input has at most.
 abbrev pub Makes : Command → List (List ℕ) → Answer → Type 0
 Makes (Fit image machine loops out inputs) (i ∷ m ∷ l ∷ given) answer = MakesFit i m l given out answer
 Makes (Show image machine loops) (i ∷ m ∷ l ∷ []) answer = Tells (AreReasons i m l) (text_answer reasons_text) answer
-Makes (Loops image out inputs) (i ∷ given) answer = AreBytes i × Tells (Drafts i) (stored_answer drafted_text out) answer
+Makes (Loops image out most inputs) (i ∷ given) answer = AreBytes i × Tells (Drafts i most) (stored_answer drafted_text out) answer
 Makes (Explain image machine loops) (i ∷ m ∷ l ∷ []) answer = Tells (AreExplained i m l) (text_answer explained_text) answer
 Makes (DrawRun machine out names) (m ∷ given) answer = Tells (DrawsRuns m names given) (stored_answer picture_text out) answer
 Makes (DrawPlan image machine loops out) (i ∷ m ∷ l ∷ []) answer = Tells (DrawsPlan i m l) (stored_answer plan_text out) answer
 Makes (Jumps image out) (i ∷ []) answer = Tells (DraftsJumps i) (stored_answer jumps_text out) answer
-Makes (InOne image machine out versions inputs) (i ∷ m ∷ given) answer = AreBytes i × MakesInOne i m given versions out answer
+Makes (InOne image machine out versions most inputs) (i ∷ m ∷ given) answer = AreBytes i × MakesInOne i m most given versions out answer
 Makes command files answer = ⊥

@@ -1,5 +1,6 @@
--- What `all` gives: the jumps of an image are drafted and lowered, its loops are drafted, and it is fitted to inputs.
-use Rattle.std.specs.Prelude.{◌≡◌, ◌⊎◌, ℕ, ◌<◌, ◌≤◌, ◌++◌, ◌==◌, ◌||◌, not, Bool, true, false, List, [], length, flat_map, if◌then◌else◌, Result, Ok, Err, string_bytes}
+-- What `all` gives: the jumps of an image are drafted and lowered, its loops are drafted, for inputs of so many bytes at most, where that is told, and it is fitted
+-- to inputs.
+use Rattle.std.specs.Prelude.{◌≡◌, ◌⊎◌, ℕ, ◌<◌, ◌≤◌, ◌++◌, ◌==◌, ◌||◌, not, Bool, true, false, List, [], length, flat_map, if◌then◌else◌, Option, Result, Ok, Err, string_bytes}
 use Rattle.std.specs.FinMap.{get}
 use Rattle.std.specs.List.{list_any}
 use Rattle.scale_base.specs.declared.limits.TheConstants.{IMAGE_LIMIT}
@@ -84,30 +85,31 @@ MakesDrafted machine out inputs image text (Ok given) answer =
 MakesDrafted machine out inputs image text (Err refusal) answer = answer ≡ refused refusal
 
 -- that for the image that is fitted
-abbrev pub MakesOfTried : (machine out : List ℕ) (inputs : List (List ℕ)) (tried text : List ℕ) → Answer → Type 0
-MakesOfTried machine out inputs tried text answer =
-    AreBytes tried × ((drafted : Result (List ℕ × LoopDraft) Refusal) × Drafts tried drafted ×
+abbrev pub MakesOfTried : (machine out : List ℕ) (most : Option ℕ) (inputs : List (List ℕ)) (tried text : List ℕ) → Answer → Type 0
+MakesOfTried machine out most inputs tried text answer =
+    AreBytes tried × ((drafted : Result (List ℕ × LoopDraft) Refusal) × Drafts tried most drafted ×
     MakesDrafted machine out inputs tried text drafted answer)
 
 -- ---- versions
 
 -- The image that is fitted, with what is told of it: the one that goes on, or, where versions are tried, one of it in which code is there twice and by which a fit takes less.
-abbrev pub IsTried : (machine : List ℕ) (inputs : List (List ℕ)) (versions : Bool) (plain tried text : List ℕ) → Type 0
-IsTried machine inputs false plain tried text = (tried ≡ plain) × (text ≡ [])
-IsTried machine inputs true plain tried text = ((tried ≡ plain) × (text ≡ no_version_text))
-    ⊎ ((chosen : ChosenVersion) × IsChosenVersion plain machine inputs chosen × (tried ≡ chosen.version.file.items) ×
+abbrev pub IsTried : (machine : List ℕ) (most : Option ℕ) (inputs : List (List ℕ)) (versions : Bool) (plain tried text : List ℕ) → Type 0
+IsTried machine most inputs false plain tried text = (tried ≡ plain) × (text ≡ [])
+IsTried machine most inputs true plain tried text = ((tried ≡ plain) × (text ≡ no_version_text))
+    ⊎ ((chosen : ChosenVersion) × IsChosenVersion plain machine most inputs chosen × (tried ≡ chosen.version.file.items) ×
     (text ≡ version_text chosen))
 
 -- that for an image that goes on
-abbrev pub MakesOfPlain : (machine out : List ℕ) (inputs : List (List ℕ)) (versions : Bool) → Result (List ℕ × List ℕ) Refusal → Answer →
-    Type 0
-MakesOfPlain machine out inputs versions (Ok plain) answer =
-    (tried : List ℕ) × (text : List ℕ) × IsTried machine inputs versions plain.0 tried text ×
-    MakesOfTried machine out inputs tried (plain.1 ++ text) answer
-MakesOfPlain machine out inputs versions (Err refusal) answer = answer ≡ refused refusal
+abbrev pub MakesOfPlain : (machine out : List ℕ) (most : Option ℕ) (inputs : List (List ℕ)) (versions : Bool) →
+    Result (List ℕ × List ℕ) Refusal → Answer → Type 0
+MakesOfPlain machine out most inputs versions (Ok plain) answer =
+    (tried : List ℕ) × (text : List ℕ) × IsTried machine most inputs versions plain.0 tried text ×
+    MakesOfTried machine out most inputs tried (plain.1 ++ text) answer
+MakesOfPlain machine out most inputs versions (Err refusal) answer = answer ≡ refused refusal
 
 -- The answer to `all` with this name of OUT.
-pub record MakesInOne (image machine : List ℕ) (inputs : List (List ℕ)) (versions : Bool) (out : List ℕ) (answer : Answer) : Type 0 where
+pub record MakesInOne (image machine : List ℕ) (most : Option ℕ) (inputs : List (List ℕ)) (versions : Bool) (out : List ℕ)
+    (answer : Answer) : Type 0 where
   pub plain : Result (List ℕ × List ℕ) Refusal
   pub is_plain : MakesPlain image plain
-  pub made : MakesOfPlain machine out inputs versions plain answer
+  pub made : MakesOfPlain machine out most inputs versions plain answer

@@ -47,7 +47,7 @@ pub record IsVersionedSafely (plain tried : List ℕ) : Type 0 where
   pub follows : (levels : ℕ) (input : List ℕ) (n : ℕ) → AreBytes input → StaysOutside image versioned pieces sites base levels input n →
       GoesBack image versioned pieces sites base levels input n →
       (m : ℕ) × FollowsVersioned image versioned pieces sites base (run_of image levels input n) (run_of versioned levels input m)
-  pub goes_back : (draft : LoopDraft) → IsDrafted plain (Ok draft) → draft.returns ≡ true →
+  pub goes_back : (most : Option ℕ) (draft : LoopDraft) → IsDrafted plain most (Ok draft) → draft.returns ≡ true →
       (levels : ℕ) (input : List ℕ) (n : ℕ) → AreBytes input → GoesBack image versioned pieces sites base levels input n
 
 -- the image that is fitted is the one that goes on, or, where versions are tried, one of it that follows it
@@ -58,7 +58,8 @@ IsTriedSafely true plain tried = (tried ≡ plain) ⊎ IsVersionedSafely plain t
 -- What `all` promises: OUT has a choice that is fitted to the image that goes on, or to one of it in which code is there twice, with the draft of its loops as its loop file. No
 -- loop of the draft is open, and it keeps what `loops` promises of it; the choice keeps what `fit` promises of it; where jumps were lowered, the image that goes on follows the one
 -- that was loaded, as `lower` promises; and where code is there twice, that image follows the one that goes on.
-pub record IsFittedInOne (image machine : List ℕ) (inputs : List (List ℕ)) (versions : Bool) (out : Option (List ℕ)) : Type 0 where
+pub record IsFittedInOne (image machine : List ℕ) (most : Option ℕ) (inputs : List (List ℕ)) (versions : Bool) (out : Option (List ℕ))
+    : Type 0 where
   pub plain : List ℕ
   pub text : List ℕ
   pub is_plain : MakesPlain image (Ok ((plain, text)))
@@ -68,9 +69,9 @@ pub record IsFittedInOne (image machine : List ℕ) (inputs : List (List ℕ)) (
   pub is_tried : IsTriedSafely versions plain tried
   pub file : List ℕ
   pub draft : LoopDraft
-  pub is_drafted : Drafts tried (Ok ((file, draft)))
+  pub is_drafted : Drafts tried most (Ok ((file, draft)))
   pub closed : draft.unbounded ≡ 0
-  pub drafted : IsDraftedSafely tried file draft
+  pub drafted : IsDraftedSafely tried most file draft
   pub fitted : StoredPromise (FitsAny tried machine file inputs) (IsFittedSafely tried machine file) out
 
 -- What a command promises beside its answer, by the files that it loaded and those that stand afterwards. Of `fit`: on every input on which the original run exits and keeps the
@@ -79,12 +80,13 @@ pub record IsFittedInOne (image machine : List ℕ) (inputs : List (List ℕ)) (
 -- that `hold` stores. Of `loops`: the stored file isn't too long to be loaded; where it prints that no loop is open, that is a loop file of the image, with as many loops as it
 -- prints; where it prints that all loops are proved as well, every run on every input keeps that file as long as its returns go back to their calls; where it prints that returns
 -- are proved, those of every run on every input do, so that then every run keeps that file, and whatever is promised of runs that keep it; else no run breaks a bound of it before
--- it breaks one that was written in by hand, or a return address; and where it prints that nothing is irreducible, the loops are taken. Of `all`: `IsFittedInOne`. `show` and
+-- it breaks one that was written in by hand, or a return address; and where it prints that nothing is irreducible, the loops are taken. With a limit of inputs, what is promised of
+-- bounds is so on every input that has no more bytes, and the file says so; what is promised of returns is so on every input. Of `all`: `IsFittedInOne`. `show` and
 -- `explain` store nothing, and promise nothing beside their answers. `draw run`,
 -- `draw plan` and `jumps` store files of which their answers say all (`DrawsRuns`, `DrawsPlan`, `DraftsJumps`).
 abbrev pub Promise : Command → List (List ℕ) → Files → Type 0
 Promise (Fit image machine loops out inputs) (i ∷ m ∷ l ∷ given) after = StoredPromise (FitsAny i m l given) (IsFittedSafely i m l)
     (get after out)
-Promise (Loops image out inputs) (i ∷ given) after = StoredPromise (Drafts i) (IsDraftedSafely i) (get after out)
-Promise (InOne image machine out versions inputs) (i ∷ m ∷ given) after = IsFittedInOne i m given versions (get after out)
+Promise (Loops image out most inputs) (i ∷ given) after = StoredPromise (Drafts i most) (IsDraftedSafely i most) (get after out)
+Promise (InOne image machine out versions most inputs) (i ∷ m ∷ given) after = IsFittedInOne i m most given versions (get after out)
 Promise command files after = Unit {0}

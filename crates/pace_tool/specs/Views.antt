@@ -21,12 +21,13 @@ abbrev pub fit_view : ParsedFit → Command
 fit_view fit = Fit fit.program.image.now fit.program.machine.now fit.program.loops.now fit.out.now (texts fit.inputs.names.now)
 
 abbrev pub in_one_view : ParsedInOne → Command
-in_one_view command = InOne command.image.now command.machine.now command.out.now command.versions (texts command.inputs.names.now)
+in_one_view command =
+    InOne command.image.now command.machine.now command.out.now command.versions command.limit.most (texts command.inputs.names.now)
 
 abbrev pub command_view : Job → Command
 command_view (job.Fit fit) = fit_view fit
 command_view (job.Show program) = Show program.image.now program.machine.now program.loops.now
-command_view (job.Loops loops) = Loops loops.image.now loops.out.now (texts loops.inputs.names.now)
+command_view (job.Loops loops) = Loops loops.image.now loops.out.now loops.limit.most (texts loops.inputs.names.now)
 command_view (job.Explain program) = Explain program.image.now program.machine.now program.loops.now
 command_view (job.DrawRun draw) = DrawRun draw.machine.now draw.out.now (texts draw.names.now)
 command_view (job.DrawPlan draw) = DrawPlan draw.program.image.now draw.program.machine.now draw.program.loops.now draw.out.now

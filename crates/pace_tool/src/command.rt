@@ -5,7 +5,7 @@ ghost use Rattle.host_runs.specs.Views.{want_views};
 ghost use Rattle.pace_tool.specs.Command.{drawn_wants, image_wants, input_wants, machine_wants, program_wants, run_wants, wants_of};
 ghost use Rattle.pace_tool.specs.Views.{command_view, texts, want_view};
 
-use crate::input_names::InputNames;
+use crate::input_names::{InputLimit, InputNames};
 use host_runs::Want;
 use scale_base::{FILE_LIMIT, IMAGE_LIMIT, STORED_LIMIT};
 use std::alloc::{AllocError, Global};
@@ -27,12 +27,13 @@ pub struct Fit<'a> {
     pub inputs: InputNames<'a>,
 }
 
-/// The command `loops`, with the names of its files: it stores a draft of the loop file of a program.
+/// The command `loops`, with the names of its files: it stores a draft of the loop file of a program, for inputs within a limit.
 #[derive(Clone, Copy)]
 pub struct Loops<'a> {
     pub image: &'a str,
     pub out: &'a str,
     pub inputs: InputNames<'a>,
+    pub limit: InputLimit,
 }
 
 /// The command `jumps`, with the names of its files: it stores a draft of the jump file of a program.
@@ -57,8 +58,8 @@ pub struct DrawPlan<'a> {
     pub out: &'a str,
 }
 
-/// The command `all`, with the names of its files: it drafts and lowers the jumps of a program, drafts its loops, and stores the image that is fitted to inputs. With
-/// versions, that may be one in which code is there twice.
+/// The command `all`, with the names of its files: it drafts and lowers the jumps of a program, drafts its loops, for inputs within a limit, and stores the image that
+/// is fitted to inputs. With versions, that may be one in which code is there twice.
 #[derive(Clone, Copy)]
 pub struct InOne<'a> {
     pub image: &'a str,
@@ -66,6 +67,7 @@ pub struct InOne<'a> {
     pub out: &'a str,
     pub versions: bool,
     pub inputs: InputNames<'a>,
+    pub limit: InputLimit,
 }
 
 /// A command.
@@ -101,14 +103,20 @@ fn want_at<'a>(command: &Job<'a>, number: usize) -> Option<Want<'a>>
     match *command {
         Job::Fit(fit) => program_want(fit.program, fit.inputs.names, number),
         Job::Show(program) => program_want(program, &[], number),
-        Job::Loops(loops) => image_want(loops.image, loops.inputs.names, number),
+        Job::Loops(loops) => image_want(
+            loops.image,
+            loops.limit.bytes(),
+            loops.inputs.names,
+            number,
+        ),
         Job::Explain(program) => program_want(program, &[], number),
         Job::DrawRun(draw) => drawn_want(draw.machine, draw.names, number),
         Job::DrawPlan(draw) => program_want(draw.program, &[], number),
-        Job::Jumps(jumps) => image_want(jumps.image, &[], number),
+        Job::Jumps(jumps) => image_want(jumps.image, FILE_LIMIT, &[], number),
         Job::InOne(command) => machine_want(
             command.image,
             command.machine,
+            command.limit.bytes(),
             command.inputs.names,
             number,
         ),
@@ -118,7 +126,7 @@ fn want_at<'a>(command: &Job<'a>, number: usize) -> Option<Want<'a>>
 // Of a program's files and inputs.
 fn program_want<'a>(program: Program<'a>, inputs: &[&'a str], number: usize) -> Option<Want<'a>>
     ensures { option_map want_view result ≡ slice_get (program_wants program.entry.image.now program.entry.machine.now
-        program.entry.loops.now (input_wants (texts inputs.now))) number }
+        program.entry.loops.now (input_wants FILE_LIMIT (texts inputs.now))) number }
 {
     if number == 0 {
         Some(want(program.image, IMAGE_LIMIT))
@@ -134,8 +142,8 @@ fn tables_want<'a>(
     inputs: &[&'a str],
     number: usize,
 ) -> Option<Want<'a>>
-    ensures { option_map want_view result ≡ slice_get ((machine.now, FILE_LIMIT) ∷ (loops.now, FILE_LIMIT) ∷ input_wants (texts inputs.now))
-        number }
+    ensures { option_map want_view result ≡ slice_get ((machine.now, FILE_LIMIT) ∷ (loops.now, FILE_LIMIT) ∷
+        input_wants FILE_LIMIT (texts inputs.now)) number }
 {
     if number == 0 {
         Some(want(machine, FILE_LIMIT))
@@ -146,39 +154,46 @@ fn tables_want<'a>(
 
 // Of a loop file and inputs.
 fn loops_want<'a>(loops: &'a str, inputs: &[&'a str], number: usize) -> Option<Want<'a>>
-    ensures { option_map want_view result ≡ slice_get ((loops.now, FILE_LIMIT) ∷ input_wants (texts inputs.now)) number }
+    ensures { option_map want_view result ≡ slice_get ((loops.now, FILE_LIMIT) ∷ input_wants FILE_LIMIT (texts inputs.now)) number }
 {
     if number == 0 {
         Some(want(loops, FILE_LIMIT))
     } else {
-        input_want(inputs, number - 1)
+        input_want(FILE_LIMIT, inputs, number - 1)
     }
 }
 
-// Of an image and inputs.
-fn image_want<'a>(image: &'a str, inputs: &[&'a str], number: usize) -> Option<Want<'a>>
-    ensures { option_map want_view result ≡ slice_get (image_wants image.now (input_wants (texts inputs.now))) number }
+// Of an image and inputs within a limit.
+fn image_want<'a>(
+    image: &'a str,
+    limit: usize,
+    inputs: &[&'a str],
+    number: usize,
+) -> Option<Want<'a>>
+    ensures { option_map want_view result ≡ slice_get (image_wants image.now (input_wants limit (texts inputs.now))) number }
 {
     if number == 0 {
         Some(want(image, IMAGE_LIMIT))
     } else {
-        input_want(inputs, number - 1)
+        input_want(limit, inputs, number - 1)
     }
 }
 
-// Of an image, a machine and inputs.
+// Of an image, a machine and inputs within a limit.
 fn machine_want<'a>(
     image: &'a str,
     machine: &'a str,
+    limit: usize,
     inputs: &[&'a str],
     number: usize,
 ) -> Option<Want<'a>>
-    ensures { option_map want_view result ≡ slice_get (machine_wants image.now machine.now (input_wants (texts inputs.now))) number }
+    ensures { option_map want_view result ≡ slice_get (machine_wants image.now machine.now (input_wants limit (texts inputs.now)))
+        number }
 {
     match number {
         0 => Some(want(image, IMAGE_LIMIT)),
         1 => Some(want(machine, FILE_LIMIT)),
-        _ => input_want(inputs, number - 2),
+        _ => input_want(limit, inputs, number - 2),
     }
 }
 
@@ -207,12 +222,12 @@ fn run_want<'a>(names: &[&'a str], number: usize) -> Option<Want<'a>>
     }
 }
 
-// Of inputs.
-fn input_want<'a>(inputs: &[&'a str], number: usize) -> Option<Want<'a>>
-    ensures { option_map want_view result ≡ slice_get (input_wants (texts inputs.now)) number }
+// Of inputs within a limit.
+fn input_want<'a>(limit: usize, inputs: &[&'a str], number: usize) -> Option<Want<'a>>
+    ensures { option_map want_view result ≡ slice_get (input_wants limit (texts inputs.now)) number }
 {
     if number < inputs.len() {
-        Some(want(inputs[number], FILE_LIMIT))
+        Some(want(inputs[number], limit))
     } else {
         None
     }

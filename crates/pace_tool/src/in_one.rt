@@ -17,20 +17,28 @@ use crate::fit::{Inputs, fit_reply};
 use crate::plain::plain_image;
 use crate::texts::{drafted_text, version_text};
 use host_runs::{ProgramFiles, Reply};
-use loop_drafts::{LoopDraft, Piece, draft_loops, printed_text};
+use loop_drafts::{DraftInputs, LoopDraft, Piece, draft_loops, printed_text};
 use run_progress::Progress;
 use scale_base::{FILE_LIMIT, IMAGE_LIMIT, NoMemory, Stop};
 use std::alloc::{AllocError, Global};
 use version_fits::{ChosenVersion, FitGoal, choose_version};
 
-/// What an image is fitted to: a machine, inputs, and the name under which the choice is stored.
+/// What an image is fitted to: a machine, inputs, how many bytes an input has at most, where that is told, and the name under which the choice is stored.
 #[derive(Clone, Copy)]
 struct Goal<'f, 'n> {
     machine: &'f [u8],
     inputs: Inputs<'f>,
+    most: Option<u32>,
     out: &'n str,
     versions: bool,
     ghost short: { length machine.now ≤ FILE_LIMIT },
+}
+
+/// An image that is fitted, and what it is fitted to.
+#[derive(Clone, Copy)]
+struct Fitting<'a> {
+    goal: &'a Goal<'a, 'a>,
+    image: &'a [u8],
 }
 
 // Adds the pieces of loops that have no bound.
@@ -78,16 +86,16 @@ fn told_behind(mut text: String, reply: Reply) -> Result<Reply, NoMemory>
 // The image fitted, with its draft as its loop file.
 fn fitted_reply<P: Progress>(
     alloc: Global,
-    goal: &Goal<'_, '_>,
-    image: &[u8],
+    fitting: &Fitting<'_>,
     file: &[u8],
     text: String,
     progress: &mut P,
 ) -> Result<Reply, NoMemory>
     requires { length file.now ≤ FILE_LIMIT }
-    ensures { IfOk result (λ reply. MakesFitted goal.now.machine.now goal.now.out.now (files_view goal.now.inputs.items.now) image.now
-        file.now (string_bytes text) (reply_view reply)) }
+    ensures { IfOk result (λ reply. MakesFitted fitting.now.goal.now.machine.now fitting.now.goal.now.out.now
+        (files_view fitting.now.goal.now.inputs.items.now) fitting.now.image.now file.now (string_bytes text) (reply_view reply)) }
 {
+    let Fitting { goal, image } = *fitting;
     if image.len() > IMAGE_LIMIT {
         return Reply::too_large(alloc, goal.out);
     }
@@ -103,22 +111,22 @@ fn fitted_reply<P: Progress>(
 // What is made of a draft of the image's loops.
 fn drafted_reply<P: Progress>(
     alloc: Global,
-    goal: &Goal<'_, '_>,
-    image: &[u8],
+    fitting: &Fitting<'_>,
     mut text: String,
     draft: &LoopDraft,
     progress: &mut P,
 ) -> Result<Reply, NoMemory>
-    requires { Drafts image.now (Ok (draft_view draft.now)) }
-    ensures { IfOk result (λ reply. MakesDrafted goal.now.machine.now goal.now.out.now (files_view goal.now.inputs.items.now) image.now
-        (string_bytes text) (Ok (draft_view draft.now)) (reply_view reply)) }
+    requires { Drafts fitting.now.image.now fitting.now.goal.now.most (Ok (draft_view draft.now)) }
+    ensures { IfOk result (λ reply. MakesDrafted fitting.now.goal.now.machine.now fitting.now.goal.now.out.now
+        (files_view fitting.now.goal.now.inputs.items.now) fitting.now.image.now (string_bytes text) (Ok (draft_view draft.now))
+        (reply_view reply)) }
 {
     text.push_str(drafted_text(alloc, draft)?.as_str())?;
     if draft.unbounded > 0 {
         return open_reply(alloc, text, draft);
     }
     let file = printed_text(alloc, &draft.pieces)?;
-    fitted_reply(alloc, goal, image, file.as_bytes(), text, progress)
+    fitted_reply(alloc, fitting, file.as_bytes(), text, progress)
 }
 
 // What is made of the image that is fitted.
@@ -129,11 +137,18 @@ fn tried_reply<P: Progress>(
     text: String,
     progress: &mut P,
 ) -> Result<Reply, NoMemory>
-    ensures { IfOk result (λ reply. MakesOfTried goal.now.machine.now goal.now.out.now (files_view goal.now.inputs.items.now) image.now
-        (string_bytes text) (reply_view reply)) }
+    ensures { IfOk result (λ reply. MakesOfTried goal.now.machine.now goal.now.out.now goal.now.most
+        (files_view goal.now.inputs.items.now) image.now (string_bytes text) (reply_view reply)) }
 {
-    match draft_loops(alloc, image, goal.inputs.items, progress) {
-        Ok(draft) => drafted_reply(alloc, goal, image, text, &draft, progress),
+    let inputs = DraftInputs {
+        items: goal.inputs.items,
+        most: goal.most,
+    };
+    match draft_loops(alloc, image, &inputs, progress) {
+        Ok(draft) => {
+            let fitting = Fitting { goal, image };
+            drafted_reply(alloc, &fitting, text, &draft, progress)
+        }
         Err(Stop::Refused(refusal)) => Reply::refused(alloc, &refusal),
         Err(Stop::Memory) => Err(NoMemory),
     }
@@ -146,7 +161,7 @@ fn version_of<P: Progress>(
     image: &[u8],
     progress: &mut P,
 ) -> Result<Option<ChosenVersion>, NoMemory>
-    ensures { IfOk result (λ chosen. IfSome chosen (IsChosenVersion image.now goal.now.machine.now
+    ensures { IfOk result (λ chosen. IfSome chosen (IsChosenVersion image.now goal.now.machine.now goal.now.most
         (files_view goal.now.inputs.items.now))) }
 {
     if image.len() > IMAGE_LIMIT {
@@ -155,6 +170,7 @@ fn version_of<P: Progress>(
     let to = FitGoal {
         machine: goal.machine,
         inputs: goal.inputs.items,
+        most: goal.most,
     };
     choose_version(alloc, &to, image, progress)
 }
@@ -162,18 +178,18 @@ fn version_of<P: Progress>(
 // What is made of an image, where versions are tried and one is chosen.
 fn version_reply<P: Progress>(
     alloc: Global,
-    goal: &Goal<'_, '_>,
-    image: &[u8],
+    fitting: &Fitting<'_>,
     mut text: String,
     chosen: &ChosenVersion,
     progress: &mut P,
 ) -> Result<Reply, NoMemory>
-    requires { IsChosenVersion image.now goal.now.machine.now (files_view goal.now.inputs.items.now) chosen.now }
-    ensures { IfOk result (λ reply. MakesOfPlain goal.now.machine.now goal.now.out.now (files_view goal.now.inputs.items.now) true
-        (Ok (image.now, string_bytes text)) (reply_view reply)) }
+    requires { IsChosenVersion fitting.now.image.now fitting.now.goal.now.machine.now fitting.now.goal.now.most
+        (files_view fitting.now.goal.now.inputs.items.now) chosen.now }
+    ensures { IfOk result (λ reply. MakesOfPlain fitting.now.goal.now.machine.now fitting.now.goal.now.out.now fitting.now.goal.now.most
+        (files_view fitting.now.goal.now.inputs.items.now) true (Ok (fitting.now.image.now, string_bytes text)) (reply_view reply)) }
 {
     text.push_str(version_text(alloc, chosen)?.as_str())?;
-    tried_reply(alloc, goal, &chosen.version.file, text, progress)
+    tried_reply(alloc, fitting.goal, &chosen.version.file, text, progress)
 }
 
 // The same, where none is.
@@ -184,8 +200,8 @@ fn unversioned_reply<P: Progress>(
     mut text: String,
     progress: &mut P,
 ) -> Result<Reply, NoMemory>
-    ensures { IfOk result (λ reply. MakesOfPlain goal.now.machine.now goal.now.out.now (files_view goal.now.inputs.items.now) true
-        (Ok (image.now, string_bytes text)) (reply_view reply)) }
+    ensures { IfOk result (λ reply. MakesOfPlain goal.now.machine.now goal.now.out.now goal.now.most
+        (files_view goal.now.inputs.items.now) true (Ok (image.now, string_bytes text)) (reply_view reply)) }
 {
     text.push_str("no version\n")?;
     tried_reply(alloc, goal, image, text, progress)
@@ -199,11 +215,14 @@ fn versions_reply<P: Progress>(
     text: String,
     progress: &mut P,
 ) -> Result<Reply, NoMemory>
-    ensures { IfOk result (λ reply. MakesOfPlain goal.now.machine.now goal.now.out.now (files_view goal.now.inputs.items.now) true
-        (Ok (image.now, string_bytes text)) (reply_view reply)) }
+    ensures { IfOk result (λ reply. MakesOfPlain goal.now.machine.now goal.now.out.now goal.now.most
+        (files_view goal.now.inputs.items.now) true (Ok (image.now, string_bytes text)) (reply_view reply)) }
 {
     match version_of(alloc, goal, image, progress)? {
-        Some(chosen) => version_reply(alloc, goal, image, text, &chosen, progress),
+        Some(chosen) => {
+            let fitting = Fitting { goal, image };
+            version_reply(alloc, &fitting, text, &chosen, progress)
+        }
         None => unversioned_reply(alloc, goal, image, text, progress),
     }
 }
@@ -216,8 +235,8 @@ fn plain_reply<P: Progress>(
     text: String,
     progress: &mut P,
 ) -> Result<Reply, NoMemory>
-    ensures { IfOk result (λ reply. MakesOfPlain goal.now.machine.now goal.now.out.now (files_view goal.now.inputs.items.now)
-        goal.now.versions (Ok (image.now, string_bytes text)) (reply_view reply)) }
+    ensures { IfOk result (λ reply. MakesOfPlain goal.now.machine.now goal.now.out.now goal.now.most
+        (files_view goal.now.inputs.items.now) goal.now.versions (Ok (image.now, string_bytes text)) (reply_view reply)) }
 {
     if goal.versions {
         versions_reply(alloc, goal, image, text, progress)
@@ -234,8 +253,8 @@ fn image_reply<P: Progress>(
     progress: &mut P,
 ) -> Result<Reply, NoMemory>
     requires { length image.now ≤ IMAGE_LIMIT }
-    ensures { IfOk result (λ reply. MakesInOne image.now goal.now.machine.now (files_view goal.now.inputs.items.now) goal.now.versions
-        goal.now.out.now (reply_view reply)) }
+    ensures { IfOk result (λ reply. MakesInOne image.now goal.now.machine.now goal.now.most
+        (files_view goal.now.inputs.items.now) goal.now.versions goal.now.out.now (reply_view reply)) }
 {
     match plain_image(alloc, image) {
         Ok((plain, text)) => plain_reply(alloc, goal, &plain, text, progress),
@@ -244,28 +263,19 @@ fn image_reply<P: Progress>(
     }
 }
 
-// What is made of an image of bytes, for a machine and inputs.
+// What is made of an image of bytes.
 fn goal_reply<P: Progress>(
     alloc: Global,
-    command: &InOne<'_>,
+    goal: &Goal<'_, '_>,
     image: &[u8],
-    machine: &[u8],
-    inputs: &Inputs<'_>,
     progress: &mut P,
 ) -> Result<Reply, NoMemory>
-    requires image { length image.now ≤ IMAGE_LIMIT }
-    requires machine { length machine.now ≤ FILE_LIMIT }
+    requires { length image.now ≤ IMAGE_LIMIT }
     ensures bytes { AreBytes image.now }
-    ensures told { IfOk result (λ reply. MakesInOne image.now machine.now (files_view inputs.now.items.now) command.now.versions
-        command.now.out.now (reply_view reply)) }
+    ensures told { IfOk result (λ reply. MakesInOne image.now goal.now.machine.now goal.now.most
+        (files_view goal.now.inputs.items.now) goal.now.versions goal.now.out.now (reply_view reply)) }
 {
-    let goal = Goal {
-        machine,
-        inputs: *inputs,
-        out: command.out,
-        versions: command.versions,
-    };
-    image_reply(alloc, &goal, image, progress)
+    image_reply(alloc, goal, image, progress)
 }
 
 /// What `all` makes of the files that were loaded. How far it is is told.
@@ -280,5 +290,13 @@ pub fn in_one_made<P: Progress>(
 {
     let (first, given) = files.split_at(2);
     let inputs = Inputs { items: given };
-    goal_reply(alloc, command, &first[0], &first[1], &inputs, progress)
+    let image = &first[0];
+    let goal = Goal {
+        machine: &first[1],
+        inputs,
+        most: command.limit.most,
+        out: command.out,
+        versions: command.versions,
+    };
+    goal_reply(alloc, &goal, image, progress)
 }

@@ -12,7 +12,7 @@ ghost use Rattle.pace_tool.specs.Told.{FileOf, written_view};
 use crate::replies::stored_reply;
 use crate::texts::drafted_text;
 use host_runs::Reply;
-use loop_drafts::{draft_loops, printed_text};
+use loop_drafts::{DraftInputs, draft_loops, printed_text};
 use run_progress::Progress;
 use scale_base::{NoMemory, Stop};
 use std::alloc::Global;
@@ -21,10 +21,10 @@ use std::alloc::Global;
 fn drafted<P: Progress>(
     alloc: Global,
     image: &[u8],
-    inputs: &[Vec<u8>],
+    inputs: &DraftInputs<'_>,
     progress: &mut P,
 ) -> Result<(Vec<u8>, String), Stop>
-    ensures { AnswersBy written_view result (FileOf (Drafts image.now) texts.drafted_text) }
+    ensures { AnswersBy written_view result (FileOf (Drafts image.now inputs.now.most) texts.drafted_text) }
 {
     let draft = draft_loops(alloc, image, inputs, progress)?;
     let file = printed_text(alloc, &draft.pieces)?;
@@ -32,16 +32,17 @@ fn drafted<P: Progress>(
     Ok((file.into_bytes(), text))
 }
 
-/// What `loops` gives for its image: of the inputs only comments tell. How far it is is told.
+/// What `loops` gives for its image: of the inputs only comments tell; with a limit of these, bounds are for inputs within it. How far it is is told.
 pub fn loops_reply<P: Progress>(
     alloc: Global,
     out: &str,
     image: &[u8],
-    inputs: &[Vec<u8>],
+    inputs: &DraftInputs<'_>,
     progress: &mut P,
 ) -> Result<Reply, NoMemory>
     ensures bytes { AreBytes image.now }
-    ensures told { IfOk result (λ reply. Tells (Drafts image.now) (stored_answer texts.drafted_text out.now) (reply_view reply)) }
+    ensures told { IfOk result (λ reply. Tells (Drafts image.now inputs.now.most) (stored_answer texts.drafted_text out.now)
+        (reply_view reply)) }
 {
     stored_reply(alloc, out, drafted(alloc, image, inputs, progress))
 }

@@ -1,70 +1,19 @@
 //! The commands over a host.
 
-ghost use Rattle.std.specs.Prelude.{◌≡◌, ◌≢◌, IfOk, IfErr, IfSome, IsSome, IsTrue};
+ghost use Rattle.std.specs.Prelude.{◌≡◌, ◌≢◌, IsTrue};
 ghost use Rattle.host_files.specs.HostState.{IsUntouched, Rose};
-ghost use Rattle.host_files.specs.Host.{count_if, is_failed};
-ghost use Rattle.host_runs.specs.Command.{Ends, IsAnswerOf, IsAnswered, IsReadyFor, IsStatusOfAll, StopsWithin, StoresStand};
-ghost use Rattle.host_runs.specs.Loading.{Missing, loading_of};
+ghost use Rattle.host_runs.specs.Command.{IsAnswered, IsReadyFor, IsStatusOfAll, StopsWithin, StoresStand};
 ghost use Rattle.host_runs.specs.Promise.{Promised};
-ghost use Rattle.host_runs.specs.Views.{reply_view};
 ghost use Rattle.pace_tool.specs.Answer.{Makes};
-ghost use Rattle.pace_tool.specs.Command.{has_one_status, may_answer, may_give, wants_of};
+ghost use Rattle.pace_tool.specs.Command.{has_one_status, may_answer, wants_of};
 ghost use Rattle.pace_tool.specs.Promise.{Promise};
 ghost use Rattle.pace_tool.specs.Views.{command_view};
 
-use crate::command::{Job, wants};
-use crate::making::made;
+use crate::command::Job;
 use host_files::{Host, HostError};
-use host_runs::{AllLoaded, Reply, deliver, load_all};
+use host_runs::run_command;
 use run_progress::{Progress, Silent};
 use std::alloc::Global;
-
-/// Loads the files, and makes what is made of them.
-fn reply_to<H: Host, P: Progress>(
-    host: &mut H,
-    alloc: Global,
-    command: &Job<'_>,
-    progress: &mut P,
-) -> Result<Reply, HostError>
-    ensures told { IfOk result (λ reply. IfSome (H.state host.old).files (λ files. IsAnswerOf (wants_of (command_view command.now))
-        (Makes (command_view command.now)) files (reply_view reply))) }
-    ensures status { IfOk result (λ reply. IsTrue (may_give reply.status)) }
-    ensures untouched { IsUntouched (H.state host.old) (H.state host.new) }
-    ensures faults { (H.state host.new).faults ≡ count_if (is_failed result) (H.state host.old).faults }
-    ensures steady { IfErr result (λ error. error ≡ HostError.Failed → IsSome (H.state host.old).room →
-        IfSome (H.state host.old).files (λ files. loading_of (wants_of (command_view command.now)) files ≡ Missing)) }
-{
-    let wants = wants(alloc, command)?;
-    match load_all(host, alloc, &wants) {
-        Ok(AllLoaded::Whole(files)) => Ok(made(alloc, command, &files, progress)?),
-        Ok(AllLoaded::TooLong(number)) => Ok(Reply::too_large(alloc, wants[number].name)?),
-        Err(error) => Err(error),
-    }
-}
-
-/// Loads the files, and stores and prints what is made of them.
-fn run<H: Host, P: Progress>(
-    host: &mut H,
-    alloc: Global,
-    command: &Job<'_>,
-    progress: &mut P,
-) -> Result<u8, HostError>
-    ensures status { IfOk result (λ status. IsTrue (may_give status)) }
-    ensures ends { Ends (wants_of (command_view command.now)) (Makes (command_view command.now)) result (H.state host.old)
-        (H.state host.new) }
-    ensures faults { (H.state host.new).faults ≡ count_if (is_failed result) (H.state host.old).faults }
-{
-    let reply = reply_to(host, alloc, command, progress);
-    progress.done();
-    match reply {
-        Ok(reply) => match deliver(host, &reply.stores, reply.text.as_bytes()) {
-            Ok(()) => Ok(reply.status),
-            // It takes no memory.
-            Err(_) => Err(HostError::Failed),
-        },
-        Err(error) => Err(error),
-    }
-}
 
 /// `run_pace`, which tells how far it is. Its clauses are those of `run_pace`, and hold whatever is told.
 #[tactic(auto, using(crate::proofs::Promises::answered_keep_promise, crate::proofs::Promises::stored_keep_promise, crate::proofs::OneStatus::status_of_all))]
@@ -104,7 +53,7 @@ pub fn run_pace_with_progress<H: Host, P: Progress>(
     // 4: nothing has happened.
     ensures memory { result ≡ 4 → IsUntouched (H.state host.old) (H.state host.new) }
 {
-    match run(host, alloc, command, progress) {
+    match run_command(host, alloc, command, progress) {
         Ok(status) => status,
         Err(HostError::Failed) => 3,
         Err(HostError::OutOfMemory) => 4,

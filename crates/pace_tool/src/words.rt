@@ -1,12 +1,15 @@
 //! The words of the command line, as `clap` reads them.
 
 use crate::command::{DrawPlan, DrawRun, Fit, InOne, Job, Jumps, Loops, Program};
-use crate::input_names::InputNames;
+use crate::input_names::{InputLimit, InputNames};
 use clap::{Arg, ArgAction, ArgMatches, Command as CommandLine, Error};
 use std::alloc::{AllocError, Global};
 
 /// How many inputs a command takes at most.
 const INPUTS: usize = 64;
+
+/// How many bytes an input has at most, as a file has.
+const INPUT_BYTES: i64 = 1_048_576;
 
 /// How many names of images and inputs a picture has at most: two for each run.
 const RUN_NAMES: usize = 16;
@@ -57,6 +60,15 @@ fn inputs<'a>(alloc: Global, help: &'a str) -> Arg<'a> {
         .help(help)
 }
 
+fn input_bytes<'a>(alloc: Global) -> Arg<'a> {
+    Arg::new(alloc, "input-bytes")
+        .long("input-bytes")
+        .action(ArgAction::Set)
+        .value_name("N")
+        .value_parser(clap::value_parser!(u32).range(0..=INPUT_BYTES))
+        .help("Takes it that no input has more than N bytes: bounds of loops that read the input")
+}
+
 fn fit_line<'a>(alloc: Global) -> Result<CommandLine<'a>, AllocError> {
     over_program(
         alloc,
@@ -85,7 +97,8 @@ fn loops_line<'a>(alloc: Global) -> Result<CommandLine<'a>, AllocError> {
     .arg(inputs(
         alloc,
         "Up to 64 inputs: comments in the file tell how often loops turn on them",
-    ))
+    ))?
+    .arg(input_bytes(alloc))
 }
 
 fn explain_line<'a>(alloc: Global) -> Result<CommandLine<'a>, AllocError> {
@@ -145,6 +158,7 @@ fn all_line<'a>(alloc: Global) -> Result<CommandLine<'a>, AllocError> {
     .arg(machine(alloc))?
     .arg(required(alloc, "OUT", "The name of the image that is stored"))?
     .arg(inputs(alloc, "Up to 64 inputs that the program is fitted to"))?
+    .arg(input_bytes(alloc))?
     .arg(
         Arg::new(alloc, "no-versions")
             .long("no-versions")
@@ -216,6 +230,10 @@ fn inputs_of<'m>(given: &'m ArgMatches<'_>) -> Option<InputNames<'m>> {
     }
 }
 
+fn limit_of<'m>(given: &'m ArgMatches<'_>) -> Option<InputLimit> {
+    InputLimit::of(given.get_one::<u32>("input-bytes"))
+}
+
 fn fit_of<'m>(given: &'m ArgMatches<'_>) -> Option<Fit<'m>> {
     Some(Fit {
         program: program_of(given)?,
@@ -244,6 +262,7 @@ fn in_one_of<'m>(given: &'m ArgMatches<'_>) -> Option<InOne<'m>> {
         out: given.get_str("OUT")?,
         versions: !given.get_flag("no-versions"),
         inputs: inputs_of(given)?,
+        limit: limit_of(given)?,
     })
 }
 
@@ -252,6 +271,7 @@ fn loops_of<'m>(given: &'m ArgMatches<'_>) -> Option<Loops<'m>> {
         image: given.get_str("IMAGE")?,
         out: given.get_str("OUT")?,
         inputs: inputs_of(given)?,
+        limit: limit_of(given)?,
     })
 }
 

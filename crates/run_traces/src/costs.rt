@@ -1,7 +1,8 @@
 //! What the stubs of marks cost, as a first estimate.
 
 use power_model::Costs;
-use scale_base::EdgeKind;
+use scale_base::{EdgeKind, Mark};
+use scale_sites::mark_cost;
 
 /// What marks cost, in cycles: the code of a switch by a word, of one to the lowest level, of a tally and of a reset, and a jump.
 #[derive(Clone, Copy)]
@@ -13,16 +14,18 @@ pub struct StubCosts {
     pub jump: u64,
 }
 
+// The cycles of a mark's code.
+fn code(mark: &Mark, costs: &Costs) -> u64 {
+    u64::from(mark_cost(mark, costs))
+}
+
 impl StubCosts {
     pub fn new(costs: &Costs) -> StubCosts {
-        let store = u64::from(costs.store);
-        let load = u64::from(costs.load);
-        let alu = u64::from(costs.alu);
         StubCosts {
-            word: 3 * store + 3 * load + 5 * alu,
-            lowest: store,
-            tally: 3 * store + 2 * load + 5 * alu,
-            reset: store,
+            word: code(&Mark::Switch, costs),
+            lowest: code(&Mark::Lowest, costs),
+            tally: code(&Mark::Tally(0), costs),
+            reset: code(&Mark::Reset(0), costs),
             jump: u64::from(costs.jump),
         }
     }

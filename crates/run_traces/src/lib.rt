@@ -15,7 +15,7 @@ mod walking;
 
 pub use costs::StubCosts;
 pub use inputs::Runs;
-pub use numbers::{EdgeNumbers, Numbers, numbers_of};
+pub use numbers::{Numbers, TracedEdge, numbers_of};
 pub use runs::{Candidate, CandidateRun, RunMarks, Span, Watched};
 pub use sums::{EdgeSum, Sums};
 pub use tracing::{EdgeTrace, may_switch};

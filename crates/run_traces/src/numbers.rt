@@ -23,7 +23,7 @@ use worst_cycles::{WorstNumbers, worst};
 /// and at least of the run behind it; and how often a run goes through its
 /// instruction at most, and over the edge itself.
 #[derive(Clone, Copy)]
-pub struct EdgeNumbers {
+pub struct TracedEdge {
     pub edge: Edge,
     pub other: Option<usize>,
     pub back: Option<usize>,
@@ -38,7 +38,7 @@ pub struct EdgeNumbers {
 /// The numbers of a program's edges, and its worst cycles.
 #[derive(Drop)]
 pub struct Numbers {
-    pub edges: Vec<EdgeNumbers>,
+    pub edges: Vec<TracedEdge>,
     pub worst: u64,
 }
 
@@ -89,13 +89,13 @@ fn edge_numbers(
     plain: &Plain<'_>,
     worst: &WorstNumbers,
     least: &LeastNumbers,
-) -> Result<Vec<EdgeNumbers>, NoMemory>
+) -> Result<Vec<TracedEdge>, NoMemory>
     requires left { HasLeftSizes graph.now worst.now }
     requires least { AreSmallLeast graph.now least.now }
 {
     let mut edges = Vec::new(alloc);
     for e in 0..graph.edge_count() {
-        edges.push(EdgeNumbers {
+        edges.push(TracedEdge {
             edge: graph.edge(e),
             other: other_of(graph, e),
             back: plain.back(e),

@@ -1,7 +1,7 @@
 //! Random walks of a program's graph that keep the bounds of its loops and its return addresses: runs that may be, where inputs show too few. Some choose
 //! anew at each step; others have habits, as a run has on an input that is all of one kind.
 
-use crate::numbers::{EdgeNumbers, Numbers};
+use crate::numbers::{Numbers, TracedEdge};
 use crate::tracing::{EdgeTrace, may_switch};
 use flow_graph::CodeGraph;
 use loop_forest::LoopTree;
@@ -179,7 +179,7 @@ impl<'a> WalkPlan<'a> {
     }
 
     /// The numbers of edge `e`.
-    fn edge(&self, e: usize) -> Option<EdgeNumbers> {
+    fn edge(&self, e: usize) -> Option<TracedEdge> {
         if e < self.numbers.edges.len() {
             Some(self.numbers.edges[e])
         } else {

@@ -1,16 +1,11 @@
 -- A run of what was asked over a host: of a command, or of words that are none, for which nothing is loaded.
 use Rattle.std.specs.Prelude.{ℕ, Option, IsTrue, Result, Ok, Err}
-use Rattle.host_files.specs.HostState.{Files, HostState}
+use Rattle.host_files.specs.HostState.{HostState}
 use Rattle.host_files.specs.declared.host.HostError.{HostError}
 use Rattle.host_files.specs.declared.host.HostError.TheVariants.{Failed, OutOfMemory}
-use Rattle.host_runs.specs.Answer.{Answer}
 use Rattle.host_runs.specs.Command as runs
 use Rattle.scale_tool.specs.Answer.{MakesAsked}
 use Rattle.scale_tool.specs.Command.{Command, may_give, needs_memory, wants_asked}
-
--- the answer is one to a command over these files, or the one to words that are none; there is none where a file that the command loads is missing
-abbrev pub IsAnswerOf : Option Command → Files → Answer → Type 0
-IsAnswerOf asked = runs.IsAnswerOf (wants_asked asked) (MakesAsked asked)
 
 -- The host is steady, holds each file that the command loads, and has room for whatever it may store and print.
 abbrev pub IsReadyFor : Option Command → HostState → Type 0

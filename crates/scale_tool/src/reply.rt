@@ -1,6 +1,6 @@
 //! What a command gives, made whole before the first of it is stored or printed.
 
-ghost use Rattle.std.specs.Prelude.{◌≡◌, ◌≤◌, [], length, option_map, string_bytes, IfOk, IsTrue, Some, Ok};
+ghost use Rattle.std.specs.Prelude.{◌≡◌, ◌≤◌, [], length, option_map, string_bytes, IfOk, Some, Ok};
 ghost use Rattle.std.specs.List.{AllZip};
 ghost use Rattle.power_model.specs.Report.{report_view};
 ghost use Rattle.gain_tuner.specs.Choice.{IsTuning};
@@ -14,16 +14,16 @@ ghost use Rattle.scaler.specs.Rewritten.{IsRewritten};
 ghost use Rattle.host_runs.specs.Answer.{Tells, stored_answer, text_answer};
 ghost use Rattle.host_runs.specs.Views.{file_view, files_view, given_by, reply_view};
 ghost use Rattle.scale_tool.specs.Answer.{AreBytes, run_answer, run_status, text_of_plan, verdict_answer, verdict_status, MakesMade, MakesRun, Makes};
-ghost use Rattle.scale_tool.specs.Command.{may_give, wants_of};
+ghost use Rattle.scale_tool.specs.Command.{wants_of};
 ghost use Rattle.scale_tool.specs.Scaled.{IsTold, told_answer};
 ghost use Rattle.scale_tool.specs.Views.{work_view};
 
-use crate::command::Work;
+use crate::command::{Work, wants};
 use crate::making::made_reply;
 use crate::numbers::Size;
 use crate::program_files::{Inputs, PairFiles};
 use gain_tuner::{GivenFiles, tune_with_progress};
-use host_runs::{ProgramFiles, Reply};
+use host_runs::{FileCommand, ProgramFiles, Reply, Want};
 use input_survey::{SurveyFiles, survey_with_progress};
 use power_model::RunReport;
 use run_progress::Progress;
@@ -32,7 +32,7 @@ use scale_report::{
     lowered_text, plan_text, run_text, summary_text, survey_text, tuned_text, verdict_text,
 };
 use speed_sim::{RunFiles, simulate_with_progress};
-use std::alloc::Global;
+use std::alloc::{AllocError, Global};
 
 /// The status of a run.
 pub fn status_of(end: End) -> u8
@@ -293,17 +293,33 @@ fn reply_of_given(alloc: Global, given: Result<Reply, Stop>) -> Result<Reply, No
     }
 }
 
-/// What is made of the files that were loaded: the reply to the command, or that of its refusal. How far it is is told.
-pub fn reply_for<P: Progress>(
-    alloc: Global,
-    work: &Work<'_>,
-    files: &[Vec<u8>],
-    progress: &mut P,
-) -> Result<Reply, NoMemory>
-    requires { AllZip (λ want file. length file ≤ want.1) (wants_of (work_view work.now)) (files_view files.now) }
-    ensures answer { IfOk result (λ reply. Makes (work_view work.now) (files_view files.now) (reply_view reply)) }
-    ensures status { IfOk result (λ reply. IsTrue (may_give (Some (work_view work.now)) reply.status)) }
-{
-    let given = work_reply(alloc, work, files, progress);
-    reply_of_given(alloc, given)
+impl FileCommand for Work<'_> {
+    ghost use Rattle.scale_tool.specs.Answer.{Makes};
+    ghost use Rattle.scale_tool.specs.Command.{may_give, wants_of};
+    ghost use Rattle.scale_tool.specs.Views.{work_view};
+    ghost use Rattle.std.specs.Prelude.{Some};
+    ghost use Rattle.std.proofs.Common.{rules};
+
+    ghost loads = { λ work. wants_of (work_view work) };
+
+    ghost makes = { λ work. Makes (work_view work) };
+
+    ghost may_give = { λ work. may_give (Some (work_view work)) };
+
+    ghost may_refuse = { Prim.search rules };
+
+    fn wants<'a>(&'a self, alloc: Global) -> Result<Vec<Want<'a>>, AllocError> {
+        wants(alloc, self)
+    }
+
+    // That of the command, or that of its refusal.
+    fn reply<P: Progress>(
+        &self,
+        alloc: Global,
+        files: &[Vec<u8>],
+        progress: &mut P,
+    ) -> Result<Reply, NoMemory> {
+        let given = work_reply(alloc, self, files, progress);
+        reply_of_given(alloc, given)
+    }
 }

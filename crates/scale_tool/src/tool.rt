@@ -1,71 +1,20 @@
 //! The commands over a host.
 
-ghost use Rattle.std.specs.Prelude.{◌≡◌, ◌≢◌, Some, None, IfOk, IfErr, IfSome, IsSome, IsTrue};
+ghost use Rattle.std.specs.Prelude.{◌≡◌, ◌≢◌, Some, None, IsTrue};
 ghost use Rattle.host_files.specs.HostState.{IsUntouched, Rose};
 ghost use Rattle.host_files.specs.Host.{count_if, is_failed};
-ghost use Rattle.host_runs.specs.Loading.{Missing, loading_of};
-ghost use Rattle.host_runs.specs.Views.{reply_view};
-ghost use Rattle.scale_tool.specs.Command.{Help, command_of, texts, may_give, may_answer, needs_memory, wants_of};
+ghost use Rattle.scale_tool.specs.Command.{Help, command_of, texts, may_answer};
 ghost use Rattle.scale_tool.specs.Passing.{Passes};
 ghost use Rattle.scale_tool.specs.Promise.{Promised};
-ghost use Rattle.scale_tool.specs.Tool.{Ends, IsAnswerOf, IsAnswered, IsReadyFor, IsStatusOfAll, MayEnd, StopsWithin, StoresStand};
-ghost use Rattle.scale_tool.specs.Views.{work_view};
+ghost use Rattle.scale_tool.specs.Tool.{Ends, IsAnswered, IsReadyFor, IsStatusOfAll, MayEnd, StopsWithin, StoresStand};
 
-use crate::command::{Command, Work, parse, wants};
-use crate::reply::reply_for;
+use crate::command::{Command, parse};
 use crate::texts;
 use check_laws::rewritten_images_pass;
 use host_files::{Host, HostError};
-use host_runs::{AllLoaded, Reply, deliver, load_all};
+use host_runs::{deliver, run_command};
 use run_progress::{Progress, Silent};
 use std::alloc::Global;
-
-/// Loads the files, and makes what is made of them.
-fn reply_to<H: Host, P: Progress>(
-    host: &mut H,
-    alloc: Global,
-    work: &Work<'_>,
-    progress: &mut P,
-) -> Result<Reply, HostError>
-    ensures told { IfOk result (λ reply. IfSome (H.state host.old).files (λ files. IsAnswerOf (Some (work_view work.now)) files
-        (reply_view reply))) }
-    ensures status { IfOk result (λ reply. IsTrue (may_give (Some (work_view work.now)) reply.status)) }
-    ensures untouched { IsUntouched (H.state host.old) (H.state host.new) }
-    ensures faults { (H.state host.new).faults ≡ count_if (is_failed result) (H.state host.old).faults }
-    ensures steady { IfErr result (λ error. error ≡ HostError.Failed → IsSome (H.state host.old).room →
-        IfSome (H.state host.old).files (λ files. loading_of (wants_of (work_view work.now)) files ≡ Missing)) }
-{
-    let wants = wants(alloc, work)?;
-    match load_all(host, alloc, &wants) {
-        Ok(AllLoaded::Whole(files)) => Ok(reply_for(alloc, work, &files, progress)?),
-        Ok(AllLoaded::TooLong(number)) => Ok(Reply::too_large(alloc, wants[number].name)?),
-        Err(error) => Err(error),
-    }
-}
-
-/// Loads the files, and stores and prints what is made of them.
-fn run_work<H: Host, P: Progress>(
-    host: &mut H,
-    alloc: Global,
-    work: &Work<'_>,
-    progress: &mut P,
-) -> Result<u8, HostError>
-    requires { IsTrue (needs_memory (Some (work_view work.now))) }
-    ensures may { MayEnd (Some (work_view work.now)) result }
-    ensures ends { Ends (Some (work_view work.now)) result (H.state host.old) (H.state host.new) }
-    ensures faults { (H.state host.new).faults ≡ count_if (is_failed result) (H.state host.old).faults }
-{
-    let reply = reply_to(host, alloc, work, progress);
-    progress.done();
-    match reply {
-        Ok(reply) => match deliver(host, &reply.stores, reply.text.as_bytes()) {
-            Ok(()) => Ok(reply.status),
-            // It takes no memory.
-            Err(_) => Err(HostError::Failed),
-        },
-        Err(error) => Err(error),
-    }
-}
 
 /// Tells how the commands are called.
 #[tactic(auto, using(crate::proofs::Ready::room_for_help))]
@@ -105,7 +54,7 @@ fn run<H: Host, P: Progress>(
 {
     match parse(words) {
         Some(Command::Help) => print_help(host),
-        Some(Command::Work(work)) => run_work(host, alloc, &work, progress),
+        Some(Command::Work(work)) => run_command(host, alloc, &work, progress),
         None => refuse_words(host),
     }
 }

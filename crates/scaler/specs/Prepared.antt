@@ -18,6 +18,7 @@ use Rattle.scaler.specs.declared.preparing.LoopedGraph.{LoopedGraph}
 use Rattle.scaler.specs.declared.preparing.PreparedProgram.{PreparedProgram}
 use Rattle.scaler.specs.Held.{IsHeld}
 use Rattle.scaler.specs.Rewritten.{IsRewrittenProgram}
+use Rattle.scaler.specs.RewrittenAs.{with_gain}
 use Rattle.scaler.specs.Scalings.{IsMarkingBySlack}
 use Rattle.scaler.specs.Timed.{IsTimed}
 
@@ -48,6 +49,26 @@ pub record IsReady (power : PowerModel) (image : Image) (notes : List LoopNote) 
   pub worst_is : IsWorstFound (graph p.graph) (loops p.graph p.tree) (by_edge weights) (Ok x)
   pub sizes : HasLeftSizes p.graph x
   pub left : IsLeftOf p.graph (loops p.graph p.tree) (by_edge weights) x
+
+-- the same of a program that stands ready, with another least gain and the first of its trees
+abbrev pub IsReadyWith : PreparedProgram → ℕ → List LoopNote → Type 0
+IsReadyWith p min_gain notes =
+    IsReady (with_gain p.power min_gain) p.view notes (record { graph = p.program.graph; tree = p.program.tree }) p.program.worst
+
+-- a program with its two trees of loops exchanged
+abbrev pub exchanged : PreparedProgram → PreparedProgram
+exchanged p = record {
+  power = p.power;
+  view = p.view;
+  program = record {
+    graph = p.program.graph;
+    tree = p.uncounted;
+    weights = p.program.weights;
+    worst = p.program.worst;
+    start = p.program.start;
+  };
+  uncounted = p.program.tree;
+}
 
 -- its marks by slack with their numbers, where its counted loops can be counted, or the refusal of these
 abbrev pub IsMarkingFrom : PowerModel → Image → List LoopNote → LoopedGraph → Result (Marking × ℕ) Refusal → Type 0

@@ -1,6 +1,6 @@
 //! A program that stands ready: its graph, its loops and its worst case are found once, for every choice of a least gain and of counters.
 
-ghost use Rattle.std.specs.Prelude.{◌≡◌, ◌≤◌, ℕ, true, false, List, length, map, None, Ok, IfOk};
+ghost use Rattle.std.specs.Prelude.{◌≡◌, ◌≤◌, ℕ, List, length, map, None, Ok, IfOk};
 ghost use Rattle.scale_base.specs.Answer.{AnswersBy};
 ghost use Rattle.scale_base.specs.Image.{Image, image_of};
 ghost use Rattle.power_model.specs.Numbers.{IsPowerModel};
@@ -11,8 +11,9 @@ ghost use Rattle.loop_file.specs.Notes.{uncounted_note};
 ghost use Rattle.loop_forest.specs.Tree.{LoopView, IsTreeOf};
 ghost use Rattle.marked_images.specs.Promise.{IsStoredSafely};
 ghost use Rattle.scaler.specs.Held.{IsHeld};
-ghost use Rattle.scaler.specs.Prepared.{IsMarkingFrom, IsPrepared, IsPreparedFound, IsReady};
+ghost use Rattle.scaler.specs.Prepared.{IsMarkingFrom, IsPrepared, IsPreparedFound, IsReady, IsReadyWith, exchanged};
 ghost use Rattle.scaler.specs.Rewritten.{IsRewrittenProgram};
+ghost use Rattle.scaler.specs.RewrittenAs as variant;
 ghost use Rattle.scaler.specs.RewrittenAs.{IsRewrittenAs};
 
 use crate::holding::hold_timed;
@@ -163,17 +164,40 @@ impl<'a> PreparedProgram<'a> {
         hold_timed(alloc, &self.view, &self.power, &self.program)
     }
 
-    /// What `rewrite_as` gives of the files with counters; and the program again.
-    fn rewritten_counted(
+    /// The program with its two trees of loops exchanged.
+    fn exchanged(self) -> PreparedProgram<'a>
+        ensures { result ≡ exchanged self.entry }
+    {
+        let program = self.program;
+        PreparedProgram {
+            power: self.power,
+            view: self.view,
+            program: TimedProgram {
+                graph: program.graph,
+                tree: self.uncounted,
+                weights: program.weights,
+                worst: program.worst,
+                start: program.start,
+            },
+            uncounted: program.tree,
+        }
+    }
+
+    /// The image with the stubs that the first of its trees asks for under this least gain, or the first refusal; and the program again.
+    fn rewritten_by_tree(
         self,
         alloc: Global,
         min_gain: u32,
     ) -> (PreparedProgram<'a>, Result<(Vec<u8>, Summary), Stop>)
-        requires { (image : List ℕ) × (machine : List ℕ) × (loops : List ℕ) × (length image ≤ IMAGE_LIMIT) ×
-            IsPrepared image machine loops self }
+        requires read { image_of self.view.file ≡ Ok self.view }
+        requires file { length self.view.file ≤ IMAGE_LIMIT }
+        requires no_key { self.view.keyed_segment ≡ None }
+        requires power { IsPowerModel self.power }
+        requires ready { (notes : List LoopNote) × IsReadyWith self min_gain notes }
         ensures same { result.0 ≡ self.entry }
-        ensures given { (image machine loops : List ℕ) → IsPrepared image machine loops self.entry →
-            AnswersBy (λ given. (given.0.items, given.1)) result.1 (IsRewrittenAs image machine loops min_gain true) }
+        ensures given { (notes : List LoopNote) → IsReadyWith self.entry min_gain notes →
+            AnswersBy (λ given. (given.0.items, given.1)) result.1 (IsRewrittenProgram (variant.with_gain self.entry.power min_gain)
+            self.entry.view notes) }
     {
         let own_gain = least_gain(&self.power);
         let power = with_gain(self.power, min_gain);
@@ -201,44 +225,6 @@ impl<'a> PreparedProgram<'a> {
         (prepared, made)
     }
 
-    /// What `rewrite_as` gives of the files without counters; and the program again.
-    fn rewritten_uncounted(
-        self,
-        alloc: Global,
-        min_gain: u32,
-    ) -> (PreparedProgram<'a>, Result<(Vec<u8>, Summary), Stop>)
-        requires { (image : List ℕ) × (machine : List ℕ) × (loops : List ℕ) × (length image ≤ IMAGE_LIMIT) ×
-            IsPrepared image machine loops self }
-        ensures same { result.0 ≡ self.entry }
-        ensures given { (image machine loops : List ℕ) → IsPrepared image machine loops self.entry →
-            AnswersBy (λ given. (given.0.items, given.1)) result.1 (IsRewrittenAs image machine loops min_gain false) }
-    {
-        let own_gain = least_gain(&self.power);
-        let power = with_gain(self.power, min_gain);
-        let view = self.view;
-        let program = self.program;
-        let worst = program.worst;
-        let looped = LoopedGraph {
-            graph: program.graph,
-            tree: self.uncounted,
-        };
-        let (looped, made) = rewrite_looped(alloc, &view, &power, looped, &worst);
-        let timed = TimedProgram {
-            graph: looped.graph,
-            tree: program.tree,
-            weights: program.weights,
-            worst,
-            start: program.start,
-        };
-        let prepared = PreparedProgram {
-            power: with_gain(power, own_gain),
-            view,
-            program: timed,
-            uncounted: looped.tree,
-        };
-        (prepared, made)
-    }
-
     /// What `rewrite_as` gives of the files: an image, or the first refusal; and the program again, for the next choice.
     pub fn rewritten(
         self,
@@ -258,9 +244,10 @@ impl<'a> PreparedProgram<'a> {
             IfOk result.1 (λ given. IsStoredSafely image machine loops given.0.items given.1) }
     {
         if counters {
-            self.rewritten_counted(alloc, min_gain)
+            self.rewritten_by_tree(alloc, min_gain)
         } else {
-            self.rewritten_uncounted(alloc, min_gain)
+            let (program, made) = self.exchanged().rewritten_by_tree(alloc, min_gain);
+            (program.exchanged(), made)
         }
     }
 }

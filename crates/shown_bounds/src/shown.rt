@@ -67,14 +67,19 @@ fn is_counted(claim: &StackClaim<'_>, note: &LoopNote, certificate: &StackCertif
     is_within(claim, certificate.counter, header, certificate.width)
 }
 
-/// Whether the code shows the bound of a loop's note, by a certificate and tables.
-pub fn is_shown(claim: &StackClaim<'_>, note: &LoopNote, certificate: &StackCertificate) -> bool
+/// Whether the code shows the bound of a loop's note, by a certificate and tables, for inputs of so many bytes at most, where that is told.
+pub fn is_shown(
+    claim: &StackClaim<'_>,
+    note: &LoopNote,
+    certificate: &StackCertificate,
+    most: Option<u32>,
+) -> bool
     requires { IsStackClaim claim.now }
     ensures { result ≡ true → (notes : List LoopNote) (k : ℕ) → note_at notes k ≡ note.now →
-        IsShown (text_of claim.now.view.now) (text_graph (text_of claim.now.view.now) claim.now.graph.now.code) (values_of claim.now.graph.now.code claim.now.table.now) (stacks_of claim.now.graph.now.code claim.now.stack.now) (noted_loops notes) k }
+        IsShown (text_of claim.now.view.now) (text_graph (text_of claim.now.view.now) claim.now.graph.now.code) (values_of claim.now.graph.now.code claim.now.table.now) (stacks_of claim.now.graph.now.code claim.now.stack.now) most (noted_loops notes) k }
 {
     match &certificate.turns {
-        Some(table) => is_turn_shown(claim, note, table),
+        Some(table) => is_turn_shown(claim, note, table, most),
         None => is_counted(claim, note, certificate),
     }
 }

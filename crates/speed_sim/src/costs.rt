@@ -3,7 +3,7 @@
 ghost use Rattle.std.specs.Prelude.{◌≡◌, ◌<◌, slice_index};
 ghost use Rattle.speed_sim.specs.Tallied.{class_number, AreCosts};
 
-use power_model::Costs;
+use power_model::{Costs, Power};
 use scale_base::Class;
 
 /// The cycles of each class, by its number.
@@ -46,5 +46,24 @@ impl CostTable {
         ensures { result ≡ slice_index self.now.by_class (class_number class) }
     {
         self.by_class[class_number(class)]
+    }
+}
+
+/// A power model, with the cycles of its classes as a table.
+#[derive(Clone, Copy)]
+pub struct Prices<'a> {
+    pub power: &'a Power,
+    pub costs: CostTable,
+}
+
+impl<'a> Prices<'a> {
+    pub fn new(power: &'a Power) -> Prices<'a>
+        ensures power { result.power.now ≡ power.now }
+        ensures costs { AreCosts power.now.costs result.costs.by_class }
+    {
+        Prices {
+            power,
+            costs: CostTable::new(&power.costs),
+        }
     }
 }

@@ -11,7 +11,7 @@ ghost use Rattle.speed_sim.specs.Simulated.{run_end};
 ghost use Rattle.speed_sim.specs.Seen.{seen_after, seen_from};
 ghost use Rattle.speed_sim.specs.Tallied.{tallied, AreCosts, IsPaid, IsAdvance, ended_by};
 
-use crate::costs::CostTable;
+use crate::costs::Prices;
 use crate::reporting::ImageRun;
 use crate::tally::Tally;
 use crate::watcher::Watches;
@@ -29,26 +29,25 @@ const TOLD_STEPS: u64 = 1_048_576;
 fn pay_known<M: Memory>(
     machine: &mut Machine<M>,
     known: &Decoded,
-    power: &Power,
-    costs: &CostTable,
+    prices: &Prices<'_>,
     tally: &mut Tally,
 ) -> StepEnd
     requires known { IsFixed (M.layout machine.old.memory) (M.bytes machine.old.memory) machine.old.pc known.now }
-    requires costs { AreCosts power.now.costs costs.now.by_class }
-    requires levels { machine.old.levels ≡ length power.now.levels }
-    requires level { tally.old.meter.level < length power.now.levels }
+    requires costs { AreCosts prices.now.power.now.costs prices.now.costs.by_class }
+    requires levels { machine.old.levels ≡ length prices.now.power.now.levels }
+    requires level { tally.old.meter.level < length prices.now.power.now.levels }
     requires few { tally.old.meter.steps + tally.old.steps < 2 ^ 40 }
     ensures outcome { outcome_of M.bytes result machine.new ≡ steps.step (machine_setting M.layout machine.old)
         (state_of M.bytes machine.old) }
     ensures setting { machine_setting M.layout machine.new ≡ machine_setting M.layout machine.old }
     ensures port { PortBelow result machine.old.levels }
-    ensures paid { IsPaid power.now result (tallied power.now tally.old) (tallied power.now tally.new) }
+    ensures paid { IsPaid prices.now.power.now result (tallied prices.now.power.now tally.old) (tallied prices.now.power.now tally.new) }
 {
     let pc = machine.pc;
     let effect = step_decoded(machine, known);
-    let next = machine.pc;
-    tally.add_effect(power, costs, known, pc, effect, next);
-    known.end(pc, effect, next)
+    let end = known.end(pc, effect, machine.pc);
+    tally.add_effect(prices, known, effect, &end);
+    end
 }
 
 /// One step of the machine, and its price.
@@ -89,24 +88,25 @@ fn seen<W: Watches>(watcher: &mut W, end: &StepEnd) -> Option<End>
 fn advance<M: Memory, W: Watches>(
     machine: &mut Machine<M>,
     code: &Code,
-    power: &Power,
-    costs: &CostTable,
+    prices: &Prices<'_>,
     tally: &mut Tally,
     watcher: &mut W,
 ) -> Option<End>
     requires code { IsDecodedCode (M.layout machine.old.memory) (M.bytes machine.old.memory) code.now }
-    requires costs { AreCosts power.now.costs costs.now.by_class }
-    requires levels { machine.old.levels ≡ length power.now.levels }
-    requires level { tally.old.meter.level < length power.now.levels }
+    requires costs { AreCosts prices.now.power.now.costs prices.now.costs.by_class }
+    requires levels { machine.old.levels ≡ length prices.now.power.now.levels }
+    requires level { tally.old.meter.level < length prices.now.power.now.levels }
     requires few { tally.old.meter.steps + tally.old.steps < 2 ^ 40 }
-    ensures advance { let o = steps.step (machine_setting M.layout machine.old) (state_of M.bytes machine.old) in IsAdvance power.now W.watched o (state_of M.bytes machine.new) (tallied power.now tally.old) (tallied power.now tally.new) watcher.old watcher.new result }
+    ensures advance { let o = steps.step (machine_setting M.layout machine.old) (state_of M.bytes machine.old) in
+        IsAdvance prices.now.power.now W.watched o (state_of M.bytes machine.new) (tallied prices.now.power.now tally.old)
+        (tallied prices.now.power.now tally.new) watcher.old watcher.new result }
     ensures setting { machine_setting M.layout machine.new ≡ machine_setting M.layout machine.old }
     ensures port { let o = steps.step (machine_setting M.layout machine.old) (state_of M.bytes machine.old) in
         PortBelow o.end machine.old.levels }
 {
     match code.instr(machine.pc) {
-        Some(known) => seen(watcher, &pay_known(machine, known, power, costs, tally)),
-        None => seen(watcher, &pay_step(machine, power, tally)),
+        Some(known) => seen(watcher, &pay_known(machine, known, prices, tally)),
+        None => seen(watcher, &pay_step(machine, prices.power, tally)),
     }
 }
 
@@ -140,11 +140,11 @@ pub fn run_machine<M: Memory, W: Watches, P: Progress>(
         watcher.new ≡ seen_from env first W.watched watcher.old given.now.power.now.steps }
 {
     let power = given.power;
-    let costs = CostTable::new(&power.costs);
+    let prices = Prices::new(power);
     let mut tally = Tally::new(given.start);
     for step in 0..power.steps {
         tell(progress, step);
-        if let Some(end) = advance(machine, code, power, &costs, &mut tally, watcher) {
+        if let Some(end) = advance(machine, code, &prices, &mut tally, watcher) {
             return (end, tally.meter(power));
         }
     }

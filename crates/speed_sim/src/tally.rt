@@ -2,7 +2,7 @@
 
 ghost use Rattle.std.specs.Prelude.{◌≤◌, ◌*◌};
 
-use crate::costs::CostTable;
+use crate::costs::Prices;
 use power_model::{Meter, Power};
 use rv_machine::{Decoded, Effect};
 use scale_base::{StepEnd, Stepped};
@@ -22,7 +22,7 @@ pub struct Tally {
 }
 
 impl Tally {
-    ghost use Rattle.std.specs.Prelude.{◌≡◌, ◌≤◌, ◌<◌, ◌+◌, ◌^◌, length, None};
+    ghost use Rattle.std.specs.Prelude.{◌≡◌, ◌≤◌, ◌<◌, ◌+◌, ◌^◌, ℕ, length, None};
     ghost use Rattle.std.specs.Option.{ForSome};
     ghost use Rattle.scale_base.specs.Step.{PortBelow};
     ghost use Rattle.scale_base.specs.declared.stepping.Stepped.{Stepped};
@@ -108,27 +108,26 @@ impl Tally {
         }
     }
 
-    /// The same for a known instruction at `pc`, by what it did and the address after it.
+    /// The same for a known instruction, which did this and ended so.
     #[inline(always)]
     pub fn add_effect(
         &mut self,
-        power: &Power,
-        costs: &CostTable,
+        prices: &Prices<'_>,
         known: &Decoded,
-        pc: u32,
         effect: Effect,
-        next: u32,
+        end: &StepEnd,
     )
-        requires costs { AreCosts power.now.costs costs.now.by_class }
-        requires level { self.old.meter.level < length power.now.levels }
+        requires costs { AreCosts prices.now.power.now.costs prices.now.costs.by_class }
+        requires level { self.old.meter.level < length prices.now.power.now.levels }
         requires few { self.old.meter.steps + self.old.steps < 2 ^ 40 }
-        requires to_level { PortBelow (decoded_end known.now pc effect next) (length power.now.levels) }
-        ensures { IsPaid power.now (decoded_end known.now pc effect next) (tallied power.now self.old) (tallied power.now self.new) }
+        requires to_level { PortBelow end.now (length prices.now.power.now.levels) }
+        requires end { (pc : ℕ) × (next : ℕ) × (end.now ≡ decoded_end known.now pc effect next) }
+        ensures { IsPaid prices.now.power.now end.now (tallied prices.now.power.now self.old) (tallied prices.now.power.now self.new) }
     {
         match effect {
-            Effect::Went => self.add(costs.of(known.untaken), known.keyed),
-            Effect::Branched => self.add(costs.of(known.taken), known.keyed),
-            _ => self.add_end(power, &known.end(pc, effect, next)),
+            Effect::Went => self.add(prices.costs.of(known.untaken), known.keyed),
+            Effect::Branched => self.add(prices.costs.of(known.taken), known.keyed),
+            _ => self.add_end(prices.power, end),
         }
     }
 }

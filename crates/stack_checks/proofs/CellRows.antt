@@ -14,21 +14,21 @@ use Rattle.stack_tables.specs.declared.tables.Cell.{Cell}
 use Rattle.stack_tables.specs.declared.memory.Storing.{Storing}
 use Rattle.stack_tables.specs.Tables.{IsKeptBy, IsStoredBy, cell_view}
 
--- of each cell of a list, or of none where the list ends
-of_cells : (P : Option cells.Cell → Type 0) → P None → (xs : List Cell) → All (λ (c : Cell). P (Some (cell_view c))) xs → (j : ℕ) → P (option_map cell_view (slice_get xs j))
-of_cells P none [] all j = none
-of_cells P none (x ∷ xs) all zero = all 0 x (omega arith)
-of_cells P none (x ∷ xs) all (suc j) = of_cells P none xs (λ k d lt. all (suc k) d (omega (arith, lt))) j
+-- of each one of a list, or of none where the list ends
+pub of_each : {A B : Type 0} (f : A → B) (P : Option B → Type 0) → P None → (xs : List A) → All (λ (x : A). P (Some (f x))) xs → (j : ℕ) → P (option_map f (slice_get xs j))
+of_each f P none [] all j = none
+of_each f P none (x ∷ xs) all zero = all 0 x (omega arith)
+of_each f P none (x ∷ xs) all (suc j) = of_each f P none xs (λ k d lt. all (suc k) d (omega (arith, lt))) j
 
 pub kept_by_all : (v : Values) (a : ℕ) (i : Instr) (s : Storing) (xs : List Cell) → IsStoredBy v a i (Some s) → All (λ (c : Cell). IsKeptBy (Some s) (cell_view c)) xs → (j : ℕ) → IsCellKept v a i (option_map cell_view (slice_get xs j))
-kept_by_all v a i s xs stored all = of_cells (IsCellKept v a i) tt xs (λ k d lt. stored _ (all k d lt))
+kept_by_all v a i s xs stored all = of_each cell_view (IsCellKept v a i) tt xs (λ k d lt. stored _ (all k d lt))
 
 pub kept_by_none : (v : Values) (a : ℕ) (i : Instr) → IsStoredBy v a i None → (o : Option cells.Cell) → IsCellKept v a i o
 kept_by_none v a i stored None = tt
 kept_by_none v a i stored (Some c) = stored c tt
 
 pub held_by_all : (bytes : ℕ → ℕ) (xs : List Cell) → All (λ (c : Cell). IsCellHeld (Some (cell_view c)) bytes) xs → (j : ℕ) → IsCellHeld (option_map cell_view (slice_get xs j)) bytes
-held_by_all bytes xs all = of_cells (λ o. IsCellHeld o bytes) tt xs all
+held_by_all bytes xs all = of_each cell_view (λ o. IsCellHeld o bytes) tt xs all
 
 -- ---- what a test finds in a list from a place on
 
@@ -46,9 +46,9 @@ pub byte_found : (image : Image) (at : ℕ) (o : Option LoadSegment) → o ≡ f
 unfolding loaded_byte
 byte_found image at o e = ap (byte_in at) e
 
--- of each cell up to a place, and of the one there
-pub cell_so_far : (P : Cell → Type 0) (xs : List Cell) (n : ℕ) (x : Cell) → n < length xs → x ≡ get_or xs n x → P x → ((i : ℕ) (other : Cell) → i < n → P (get_or xs i other)) → (i : ℕ) (other : Cell) → i < n + 1 → P (get_or xs i other)
-cell_so_far P xs n x within is here before i other lt = ⊎_elim
+-- of each one up to a place, and of the one there
+pub one_so_far : {A : Type 0} (P : A → Type 0) (xs : List A) (n : ℕ) (x : A) → n < length xs → x ≡ get_or xs n x → P x → ((i : ℕ) (other : A) → i < n → P (get_or xs i other)) → (i : ℕ) (other : A) → i < n + 1 → P (get_or xs i other)
+one_so_far P xs n x within is here before i other lt = ⊎_elim
     (λ (less : i < n). before i other less)
     (λ (rest : (i ≡ n) ⊎ (n < i)). ⊎_elim
     (λ (same : i ≡ n). subst (λ (k : ℕ). P (get_or xs k other)) (sym same) (subst P (is ∙ get_or_default xs n x other within) here))

@@ -1,5 +1,6 @@
 mod Loops
 mod CellRows
 mod RowLines
+mod Tellings
 mod Cases
 mod Confirmed

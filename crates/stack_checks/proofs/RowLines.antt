@@ -4,7 +4,7 @@ use Rattle.std.specs.Prelude.{option_map}
 use Rattle.std.specs.List.{All, find}
 use Rattle.bound_laws.proofs.Laws.{sum_of_products}
 use Rattle.bound_laws.specs.Registers.{Measure}
-use Rattle.bound_laws.specs.Values.{Arc, Covers, IsHeld, held, line_of, solved}
+use Rattle.bound_laws.specs.Values.{Arc, Covers, IsHeld, held, line_of}
 use Rattle.wrapped_intervals.specs.Small.{line_by}
 use Rattle.value_checks.specs.declared.tables.Line.{Line}
 use Rattle.value_checks.specs.Tables.{line_in}
@@ -33,13 +33,6 @@ pub by_registers : (known held_known : Option Arc) (at : ℕ → Option Arc) (m 
 by_registers known held_known at m f first other found is_known same is_first is_other is_found given =
     subst (λ (x : Option Arc). Covers x (line_of f at)) is_known
     (subst (λ (x : Option Arc). Covers held_known x) (is_found ∙ (ap (λ (x : Measure). line_by x first other) same ∙ (ap (λ (x : Option Arc). line_by f x other) (sym is_first) ∙ ap (λ (x : Option Arc). line_by f (held at f.register) x) (sym is_other)))) given)
-
--- and a register by a form of it
-pub by_line : (known held_known : Option Arc) (at : ℕ → Option Arc) (m f : Measure) (line sum other found : Option Arc) → held_known ≡ known → m ≡ f → sum ≡ line → held at f.other ≡ other → found ≡ solved m sum other →
-    Covers held_known found → Covers known (solved f line (held at f.other))
-by_line known held_known at m f line sum other found is_known same is_sum is_other is_found given =
-    subst (λ (x : Option Arc). Covers x (solved f line (held at f.other))) is_known
-    (subst (λ (x : Option Arc). Covers held_known x) (is_found ∙ (ap (λ (x : Measure). solved x sum other) same ∙ (ap (λ (x : Option Arc). solved f x other) is_sum ∙ ap (λ (x : Option Arc). solved f line x) (sym is_other)))) given)
 
 -- a sum of two products and a shift, one after the other
 pub sum_is : (s f g a b x y : ℕ) → a ≡ x → b ≡ y → ((f * a % 2 ^ 32 + g * b % 2 ^ 32) % 2 ^ 32 + s) % 2 ^ 32 ≡ (s + f * x + g * y) % 2 ^ 32

@@ -10,13 +10,15 @@ use Rattle.cost_theory.specs.Graph.{Graph}
 use Rattle.code_text.specs.Text.{Text, instr_at}
 use Rattle.bound_laws.specs.Registers.{Measure, keeps, measured}
 use Rattle.bound_laws.specs.Laws.{starting_registers}
-use Rattle.bound_laws.specs.Values.{Arc, Values, AreIn, Covers, IsCovered, IsHeld, IsLineCovered, IsRegister, IsSolved, line_of, passed}
+use Rattle.bound_laws.specs.Values.{Arc, Values, AreIn, Covers, IsCovered, IsHeld, IsLineCovered, IsRegister, IsSolved, held, line_of, meet_of, passed}
 use Rattle.stack_laws.specs.Making.{IsLineMade, IsSide, IsSubtracted, IsSumBy}
 use Rattle.stack_laws.specs.Stacks.Name.{of_begin}
 use Rattle.stack_laws.specs.Stacks.{Stacks, name_span, IsBeginning, IsCoveredOver, IsLoadedTo, IsMissed, IsNamedOver, IsSpannedOver, IsStoredFrom, IsWordCovered, IsWordNamed, IsWordSpanned, ArePassed, IsPassed, IsCellKept, IsDescending, IsRestored, IsSafe, IsSparing, IsRegisterBack, IsNameBack, IsSpanBack, IsSumBack, IsWordBack, IsWordNameBack, IsWordSpanBack, AreEntered, AreBack, IsReturned}
 use Rattle.stack_laws.specs.Cells.{IsLoadedFrom}
+use Rattle.stack_laws.specs.Telling as telling
 use Rattle.stack_tables.specs.declared.tables.Cell.{Cell}
-use Rattle.stack_tables.specs.Tables.{IsStackClaim, address, cell_view, stacks_in, text_in, values_in}
+use Rattle.stack_tables.specs.declared.tables.Told.{Told}
+use Rattle.stack_tables.specs.Tables.{IsStackClaim, address, cell_view, stacks_in, text_in, told_view, values_in}
 use Rattle.stack_checks.specs.declared.cells.Loading.{Loading}
 use Rattle.stack_checks.specs.declared.ways.Way.{Way}
 use Rattle.stack_checks.specs.declared.origins.Origin.{Origin}
@@ -112,6 +114,47 @@ pub record IsSomeLoaded (loading : Loading) (cells : List Cell) : Type 0 where
   pub cell : Cell
   pub cell_is : slice_get cells number ≡ Some cell
   pub load : IsLoadOf loading cell
+
+-- what is told before the instruction
+abbrev pub told_before : Way → ℕ → Option telling.Told
+told_before x = (stacks_along x).told (from x)
+
+abbrev pub IsToldAlong : Way → Told → Type 0
+IsToldAlong x y = telling.IsToldOver (values_along x) (told_before x) x.instr (from x) (to x) (told_view y)
+
+abbrev pub IsComparedAlong : Way → Told → Type 0
+IsComparedAlong x y = telling.IsCompared (values_along x) x.instr (from x) (told_view y)
+
+abbrev pub IsHandedAlong : Way → Told → Told → Type 0
+IsHandedAlong x z y = telling.IsHanded (values_along x) x.instr (from x) (told_view z) (told_view y)
+
+-- the instruction makes y of z
+pub record IsHandedOn (x : Way) (z y : Told) : Type 0 where
+  pub handed : IsHandedAlong x z y
+  pub carried : telling.IsCarried x.instr (told_view z) (told_view y)
+
+-- of one of these
+pub record IsSomeHanded (x : Way) (row : List Told) (y : Told) : Type 0 where
+  pub number : ℕ
+  pub found : Told
+  pub found_is : slice_get row number ≡ Some found
+  pub on : IsHandedOn x found y
+
+-- z tells of the register on the way what its interval holds
+pub record IsTellerOf (x : Way) (r : ℕ) (z : Told) : Type 0 where
+  pub about : z.about ≡ r
+  pub about_left : keeps r x.instr ≡ true
+  pub teller_left : keeps z.teller x.instr ≡ true
+  pub so : telling.AreSo z.zero (held (passed_along x) z.teller)
+  pub covers : Covers ((values_along x).at (to x) r) (Some z.arc) ⊎
+      Covers ((values_along x).at (to x) r) (meet_of (Some z.arc) (passed_along x r))
+
+-- one of these does
+pub record IsSomeTeller (x : Way) (row : List Told) (r : ℕ) : Type 0 where
+  pub number : ℕ
+  pub found : Told
+  pub found_is : slice_get row number ≡ Some found
+  pub of : IsTellerOf x r found
 
 abbrev pub IsNamedAlong : Way → ℕ → Type 0
 IsNamedAlong x r = IsNamedOver (values_along x) (stacks_along x) x.instr (from x) (to x) r

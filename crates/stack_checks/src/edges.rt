@@ -15,6 +15,7 @@ use crate::calls::{are_registers_begun, are_registers_behind, are_registers_retu
 use crate::cells::are_cells_kept;
 use crate::lines::{are_lines_behind, are_lines_covered};
 use crate::registers::{are_registers_covered, are_registers_passed};
+use crate::telling::{are_told_passed, is_none_told};
 use crate::ways::Way;
 use crate::words::{are_unknown, are_words_behind, are_words_passed};
 use scale_base::Instr;
@@ -60,6 +61,9 @@ fn are_passed(way: &Way<'_>) -> bool
     if !are_lines_covered(way) {
         return false;
     }
+    if !are_told_passed(way) {
+        return false;
+    }
     are_words_passed(way)
 }
 
@@ -78,6 +82,9 @@ pub fn is_beginning(claim: &StackClaim<'_>, n: usize) -> bool
     ensures { result ≡ true → stacks.IsBeginning (stacks_in claim.now) (address claim.now n) }
 {
     if !are_registers_begun(claim, n) {
+        return false;
+    }
+    if !is_none_told(claim, n) {
         return false;
     }
     are_unknown(claim, n)
@@ -139,6 +146,9 @@ fn are_back(way: &Way<'_>, h: usize) -> bool
         return false;
     }
     if !are_lines_behind(way, h) {
+        return false;
+    }
+    if !is_none_told(way.claim, way.to) {
         return false;
     }
     are_words_behind(way, h)

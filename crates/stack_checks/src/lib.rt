@@ -1,5 +1,6 @@
 //! Whether the code of a program confirms a table of its stacks: what is known of registers, of sums of two registers and of the words of the
-//! stack at each node, which registers the functions give back as they found them, and numbers in memory that are always in an interval.
+//! stack at each node, which registers the functions give back as they found them, numbers in memory that are always in an interval, and what
+//! registers that are 0, or aren't, tell of others.
 //! Tests: crates/graph_tests/src/stack_bounds.rt.
 #![tactic(auto)]
 
@@ -13,6 +14,7 @@ mod memory;
 mod origins;
 mod registers;
 mod starting;
+mod telling;
 mod ways;
 mod words;
 

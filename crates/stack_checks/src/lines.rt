@@ -1,7 +1,7 @@
 //! What a table says of sums and differences of two registers, and of registers by them.
 
 ghost use Rattle.std.specs.List.{All};
-ghost use Rattle.std.specs.Prelude.{◌≡◌, ◌<◌, ◌%◌, ◌^◌, ℕ, length, option_map, is_some, IfSome, Some, true};
+ghost use Rattle.std.specs.Prelude.{◌≡◌, ◌<◌, ◌%◌, ◌^◌, ◌⊎◌, ℕ, length, option_map, is_some, IfSome, Some, true};
 ghost use Rattle.bound_laws.specs.Laws.{starting_registers};
 ghost use Rattle.bound_laws.specs.Registers as registers;
 ghost use Rattle.bound_laws.specs.Values as values;
@@ -16,8 +16,8 @@ use crate::ways::{Way, arc_behind, has_line_more, kept_on, line_more, passed_on}
 use stack_tables::{StackClaim, address, arcs, form, is_given_back, line, lines};
 use value_checks::Line;
 use wrapped_intervals::{
-    Arc, Measure, compared, covers, effect, holds, is_difference, line_by, line_of, meet_of,
-    said_by, solved, without,
+    Arc, Measure, compared, covers, effect, holds, is_difference, is_kept, line_by, line_of,
+    meet_of, said_by, solved, without,
 };
 
 // ---- over an edge
@@ -208,30 +208,99 @@ fn is_known_behind(way: &Way<'_>, r: u8) -> bool
     passed_on(way, r).is_some()
 }
 
-// Whether a register's interval holds what a line of it says, of which the instruction adds so much, and whose other register is this.
+// The interval of a register that a line of it gives, to which the instruction adds so much, and whose other register is this.
+fn solved_as(way: &Way<'_>, j: usize, adds: u32, other: Arc) -> Option<Arc>
+    requires way { IsWay way.now }
+    requires other { values.held (passed_along way.now) ((values_along way.now).forms j).other ≡ Some other }
+    requires kept { IsKeptOr (Some other) }
+    ensures solved { result ≡ values.solved_by (values_along way.now) way.now.instr (from way.now) (to way.now) j adds }
+    ensures found { IsFoundOr result }
+{
+    let sum = line_more(way, j, adds);
+    solved(form(way.claim, j), sum, Some(other))
+}
+
+// Whether a register's interval holds that.
+fn is_held_as(way: &Way<'_>, r: u8, j: usize, adds: u32, other: Arc) -> bool
+    requires way { IsWay way.now }
+    requires register { r < 32 }
+    requires other { values.held (passed_along way.now) ((values_along way.now).forms j).other ≡ Some other }
+    requires kept { IsKeptOr (Some other) }
+    ensures { result ≡ true → values.Covers ((values_along way.now).at (to way.now) r)
+        (values.solved_by (values_along way.now) way.now.instr (from way.now) (to way.now) j adds) }
+{
+    covers(arc_behind(way, r), solved_as(way, j, adds, other))
+}
+
+// That interval, where it is short enough to be kept.
+fn kept_as(way: &Way<'_>, j: usize, adds: u32, other: Arc) -> Option<Arc>
+    requires way { IsWay way.now }
+    requires other { values.held (passed_along way.now) ((values_along way.now).forms j).other ≡ Some other }
+    requires kept { IsKeptOr (Some other) }
+    ensures solved { IfSome result
+        (λ a. values.solved_by (values_along way.now) way.now.instr (from way.now) (to way.now) j adds ≡ Some a) }
+    ensures kept { IsKeptOr result }
+{
+    match solved_as(way, j, adds, other) {
+        Some(a) => { if is_kept(Some(a)) { Some(a) } else { None } }
+        None => None,
+    }
+}
+
+// Whether a register's interval holds what of another one the instruction leaves.
+fn is_met_by(way: &Way<'_>, r: u8, known: Arc) -> bool
+    requires way { IsWay way.now }
+    requires register { r < 32 }
+    requires kept { IsKeptOr (Some known) }
+    ensures { result ≡ true → values.Covers ((values_along way.now).at (to way.now) r)
+        (values.meet_of (Some known) (passed_along way.now r)) }
+{
+    covers(arc_behind(way, r), meet_of(Some(known), passed_on(way, r)))
+}
+
+// The same of what a line says.
+fn is_met_as(way: &Way<'_>, r: u8, j: usize, adds: u32, other: Arc) -> bool
+    requires way { IsWay way.now }
+    requires register { r < 32 }
+    requires other { values.held (passed_along way.now) ((values_along way.now).forms j).other ≡ Some other }
+    requires kept { IsKeptOr (Some other) }
+    ensures { result ≡ true → values.Covers ((values_along way.now).at (to way.now) r)
+        (values.meet_of (values.solved_by (values_along way.now) way.now.instr (from way.now) (to way.now) j adds)
+        (passed_along way.now r)) }
+{
+    match kept_as(way, j, adds, other) {
+        Some(known) => is_met_by(way, r, known),
+        None => false,
+    }
+}
+
+// Whether it holds what the line says, or what of that the instruction leaves.
 fn is_solved_as(way: &Way<'_>, r: u8, j: usize, adds: u32, other: Arc) -> bool
     requires way { IsWay way.now }
     requires register { r < 32 }
     requires other { values.held (passed_along way.now) ((values_along way.now).forms j).other ≡ Some other }
     requires kept { IsKeptOr (Some other) }
     ensures { result ≡ true → values.Covers ((values_along way.now).at (to way.now) r)
-        (values.solved ((values_along way.now).forms j) (values.sum_with ((values_along way.now).lines (from way.now) j) adds)
-        (values.held (passed_along way.now) ((values_along way.now).forms j).other)) }
+        (values.solved_by (values_along way.now) way.now.instr (from way.now) (to way.now) j adds) ⊎
+        values.Covers ((values_along way.now).at (to way.now) r)
+        (values.meet_of (values.solved_by (values_along way.now) way.now.instr (from way.now) (to way.now) j adds)
+        (passed_along way.now r)) }
 {
-    let sum = line_more(way, j, adds);
-    covers(
-        arc_behind(way, r),
-        solved(form(way.claim, j), sum, Some(other)),
-    )
+    if is_held_as(way, r, j, adds, other) {
+        return true;
+    }
+    is_met_as(way, r, j, adds, other)
 }
 
-// The same, where it is known.
+// The same, where the line's other register is known.
 fn is_solved_by(way: &Way<'_>, r: u8, j: usize, adds: u32) -> bool
     requires way { IsWay way.now }
     requires register { r < 32 }
     ensures { result ≡ true → values.Covers ((values_along way.now).at (to way.now) r)
-        (values.solved ((values_along way.now).forms j) (values.sum_with ((values_along way.now).lines (from way.now) j) adds)
-        (values.held (passed_along way.now) ((values_along way.now).forms j).other)) }
+        (values.solved_by (values_along way.now) way.now.instr (from way.now) (to way.now) j adds) ⊎
+        values.Covers ((values_along way.now).at (to way.now) r)
+        (values.meet_of (values.solved_by (values_along way.now) way.now.instr (from way.now) (to way.now) j adds)
+        (passed_along way.now r)) }
 {
     match kept_on(way, form(way.claim, j).other) {
         Some(other) => is_solved_as(way, r, j, adds, other),

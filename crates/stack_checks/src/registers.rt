@@ -14,6 +14,7 @@ use crate::cells::is_cell_loaded;
 use crate::lines::is_solved;
 use crate::made::is_subtracted;
 use crate::origins::{Origin, origin_of};
+use crate::telling::is_told_to;
 use crate::ways::{Way, arc_before, arc_behind, passed_on};
 use stack_tables::{
     Name, StackClaim, arc_at, held_at, is_same_name, is_steady, known_sum, known_sums, more_of,
@@ -44,7 +45,7 @@ pub fn is_covered_by_name(claim: &StackClaim<'_>, n: usize, r: u8) -> bool
     covers(arc_at(claim, n, r), name_arc(claim, n, name(claim, n, r)))
 }
 
-// Whether one of both does, or a line of the difference that the instruction writes, or a cell that it loads.
+// Whether one of both does, or a line of the difference that the instruction writes, or a cell that it loads, or what another one tells.
 fn is_covered_over(way: &Way<'_>, r: u8) -> bool
     requires way { IsWay way.now }
     requires register { r < 32 }
@@ -60,7 +61,10 @@ fn is_covered_over(way: &Way<'_>, r: u8) -> bool
     if is_subtracted(way, r) {
         return true;
     }
-    is_cell_loaded(way, r)
+    if is_cell_loaded(way, r) {
+        return true;
+    }
+    is_told_to(way, r)
 }
 
 // ---- names

@@ -20,6 +20,7 @@ use Rattle.graph_runs.proofs.Laws.{kept_parts, image_starts}
 use Rattle.bound_laws.specs.Turning.{unasked, with_bounds}
 use Rattle.bound_laws.specs.Values.{IsRegister, IsHeld, Values, AreBytes}
 use Rattle.bound_laws.proofs.Laws.{kept_too, not_broken, all_returns, kept_before, loaded_small}
+use Rattle.stack_laws.specs.Telling.{IsTelling}
 use Rattle.stack_laws.specs.Stacks.{name_span, IsSpanned, Stacks, View, view_of, IsNamed, IsStackInvariant, AreTold}
 use Rattle.stack_laws.specs.Stacks.Name.{of_begin}
 use Rattle.stack_laws.specs.Counting.{IsShown}
@@ -88,6 +89,7 @@ module _ (image : Image) (levels : ℕ) (code : Code) (v : Values) (w : Stacks) 
     word_spans = λ k. subst (λ n. IsSpanned n fresh (fresh.words k)) (sym (ana.beginning.word_spans k)) tt;
     begins = ana.begins;
     cells = ana.cells;
+    told = λ j. subst (λ o. IsTelling o s.regs) (sym (ana.beginning.told j)) tt;
   }
 
 pub shown_kept : ShownBoundsAreKept

@@ -4,7 +4,7 @@ use Rattle.scale_base.specs.declared.instruction.Instr.{Instr}
 use Rattle.scale_base.specs.Arith.{is_taken}
 use Rattle.scale_base.specs.State.{reg}
 use Rattle.bound_laws.specs.Registers.{Measure, measured, keeps, effect}
-use Rattle.bound_laws.specs.Values.{IsHeld, Values, IsSolved, IsCovered, IsLineCovered, IsRegister, AreIn, held, solved, passed, Covers, Said, said, line_of, sum_with, without, is_difference, compared, meet_of}
+use Rattle.bound_laws.specs.Values.{IsHeld, Values, IsSolved, IsCovered, IsLineCovered, IsRegister, AreIn, held, solved, solved_by, passed, Covers, Said, said, line_of, sum_with, without, is_difference, compared, meet_of}
 use Rattle.bound_laws.proofs.Laws.{nothing_more, in_covers, sum_with_in, without_in, solved_in, word_of, held_of, line_in, not_shift, compared_in, measured_small, meet_of_in}
 
 abbrev pub IsSo : List ℕ → Option Said → Type 0
@@ -35,7 +35,9 @@ module _ (v : Values) (registers : (j : ℕ) → IsRegister (v.forms j).register
           let other : IsHeld (held (passed i a b (v.at a)) m.other) (reg after m.other) = held_of (passed i a b (v.at a)) after zero_after size_after holds m.other in
           let small : reg after m.register < 2 ^ 32 = subst (λ q. reg after q < 2 ^ 32) (sym x.2) (word_of (passed i a b (v.at a) r) (reg after r) x.5 (holds r is)) in
           let found : IsHeld (solved m (sum_with (v.lines a j) e) (held (passed i a b (v.at a)) m.other)) (reg after r) = subst (λ q. IsHeld (solved m (sum_with (v.lines a j) e) (held (passed i a b (v.at a)) m.other)) (reg after q)) x.2 (solved_in m (sum_with (v.lines a j) e) (held (passed i a b (v.at a)) m.other) after x.3 small line other) in
-          in_covers (solved m (sum_with (v.lines a j) e) (held (passed i a b (v.at a)) m.other)) (v.at b r) (reg after r) found x.6
+          ⊎_elim
+          (λ (y : Covers (v.at b r) (solved_by v i a b j e)). in_covers (solved_by v i a b j e) (v.at b r) (reg after r) found y)
+          (λ (y : Covers (v.at b r) (meet_of (solved_by v i a b j e) (passed i a b (v.at a) r))). in_covers (meet_of (solved_by v i a b j e) (passed i a b (v.at a) r)) (v.at b r) (reg after r) (meet_of_in (solved_by v i a b j e) (passed i a b (v.at a) r) (reg after r) found (holds r is)) y) x.6
 
   abbrev IsApartBy : ℕ → ℕ → Type 0
   IsApartBy j e = (e ≡ 0) × (is_difference (said i a b) (v.forms j) (v.at a) ≡ true) × Covers (v.lines b j) (without (v.lines a j) ((v.forms j).shift % 2 ^ 32))

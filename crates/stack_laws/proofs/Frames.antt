@@ -1,13 +1,14 @@
 -- What is known of the registers and of the stack in the calls that a run is in, and that each transition keeps it so.
 use Rattle.std.proofs.Common.{◌≡◌, ℕ, ◌+◌, ◌*◌, ◌<◌, ◌≤◌, ◌%◌, ◌^◌, true, ◌⊎◌, inl, ⊎_elim, List, [], ◌∷◌, length, refl, sym, ap, ◌∙◌, subst, arith, Option, Some, None}
 use Rattle.std.specs.Prelude.{ℤ}
+use Rattle.scale_base.specs.declared.instruction.ImmOp.{ImmOp}
 use Rattle.scale_base.specs.declared.instruction.ImmOp.TheVariants.{Addi}
 use Rattle.scale_base.specs.declared.instruction.RegOp.TheVariants.{Add}
 use Rattle.scale_base.specs.declared.instruction.RegOp.{RegOp}
 use Rattle.scale_base.specs.declared.instruction.Instr.{Instr}
 use Rattle.scale_base.specs.declared.instruction.LoadOp.{LoadOp}
 use Rattle.scale_base.specs.declared.instruction.Instr.TheVariants.{Load, Imm, Reg}
-use Rattle.scale_base.specs.Arith.{plus, moved_by, unsigned, loaded, reg_result}
+use Rattle.scale_base.specs.Arith.{plus, moved_by, unsigned, loaded, imm_result, reg_result}
 use Rattle.scale_base.specs.State.{reg, word_at}
 use Rattle.cost_theory.specs.Graph.{Graph}
 use Rattle.code_text.specs.Text.{Text, instr_at}
@@ -16,6 +17,7 @@ use Rattle.bound_laws.specs.Turning.{Leads, Calls}
 use Rattle.bound_laws.specs.Values.{Arc, word, IsHeld, Covers, sum_with, opposite_of, held, said, passed, line_of, IsImpossible, keeps_of, keeps_at, IsRegister, Values, Steps, IsLineCovered, AreBytes}
 use Rattle.bound_laws.proofs.Laws.{only_one, in_covers, in_word, sum_with_in, held_of, line_in}
 use Rattle.stack_laws.specs.Cells.{IsCellHeld}
+use Rattle.stack_laws.specs.Telling.{IsTelling, IsToldTo}
 use Rattle.stack_laws.specs.Stacks.{IsCellLoaded, IsExactly, known_sum, known_sums, name_span, span_of, IsSpanned, IsSpannedOver, IsWordSpanned, IsSpanBack, IsWordSpanBack, Name, Stacks, View, view_of, word_address, IsNamed, name_of, more_of, name_arc, word_loaded, IsStoredFrom, IsLoadedTo, IsFar, IsMissed, IsDescending, IsSteady, IsNamedOver, IsWordCovered, IsWordNamed, ArePassed, AreEntered, IsRestored, IsSafe, IsNameSafe, IsRegisterBack, IsSumBack, IsNameBack, IsWordBack, IsWordNameBack, AreBack, IsReturned, IsStackInvariant, AreTold}
 use Rattle.stack_laws.specs.Stacks.Name.{of_begin, of_word}
 use Rattle.stack_laws.specs.Stacks.IsNamedOver.{unnamed as none_over, kept as kept_over, summed as summed_over, added as added_over, added_to as added_to_over, loaded as loaded_over, loaded_as as loaded_as_over, stored as stored_over}
@@ -36,6 +38,7 @@ use Rattle.stack_laws.proofs.Making.{line_made, subtracted}
 use Rattle.stack_laws.specs.Making.{IsLineMade, IsSubtracted}
 use Rattle.stack_laws.proofs.Stepping.{load_far, store_keeps}
 use Rattle.stack_laws.proofs.Cells.{cell_loaded}
+use Rattle.stack_laws.proofs.Telling.{told_behind, told_to}
 
 words_small : (x y z u : ℕ) → x < 256 → y < 256 → z < 256 → u < 256 → x + y * 2 ^ 8 + z * 2 ^ 16 + u * 2 ^ 24 < 2 ^ 32
 words_small x y z u a b c d = omega arith
@@ -142,7 +145,7 @@ module _ (t : Text) (g : Graph) (v : Values) (w : Stacks) (inv : IsStackInvarian
       (misses : (k : ℕ) → IsMissed v w a i k → word_at later (word_address w begun k) ≡ word_at bytes (word_address w begun k))
       (puts : (k r : ℕ) → IsStoredFrom w a i k r → word_at later (word_address w begun k) ≡ reg before r % 2 ^ 32)
       (gets : (k r : ℕ) → IsRegister r → IsLoadedTo w a i k r → reg after r ≡ word_at bytes (word_address w begun k))
-      (sums : (r rs : ℕ) (imm : ℤ) → IsRegister r → i ≡ Imm Addi r rs imm → reg after r ≡ plus (reg before rs) (unsigned imm))
+      (numbers : (op : ImmOp) (r rs : ℕ) (imm : ℤ) → IsRegister r → i ≡ Imm op r rs imm → reg after r ≡ imm_result op (reg before rs) imm)
       (far : (y : Option Arc) (q : ℕ) → q < 2 ^ 32 → IsHeld y q → IsFar v a i y → word_at later q ≡ word_at bytes q)
       (name_held : (r : ℕ) → IsNamed (name_of w a r) (view_of w begun before bytes) (reg before r))
       (span_held : (r : ℕ) → IsSpanned (span_of w a r) (view_of w begun before bytes) (reg before r))
@@ -154,6 +157,9 @@ module _ (t : Text) (g : Graph) (v : Values) (w : Stacks) (inv : IsStackInvarian
 
     abbrev then : View
     then = view_of w begun after later
+
+    sums : (r rs : ℕ) (imm : ℤ) → IsRegister r → i ≡ Imm Addi r rs imm → reg after r ≡ plus (reg before rs) (unsigned imm)
+    sums = numbers Addi
 
     small_now : (k : ℕ) → now.words k < 2 ^ 32
     small_now k = word_small bytes (word_address w begun k) bytes_before
@@ -263,6 +269,7 @@ module _ (t : Text) (g : Graph) (v : Values) (w : Stacks) (inv : IsStackInvarian
       word_spans = λ k. word_spans_then k (word_names_then k (p.word_names k)) (p.word_spans k);
       begins = begins;
       cells = cells;
+      told = λ j. told_behind v (w.told a) a b i before after kept holds numbers results zero_before size_before zero_after size_after told.registers.each told.told (w.told b j) (p.told j);
     }
       where
         names : (r : ℕ) → IsRegister r → IsNamed (w.name b r) then (reg after r)
@@ -276,11 +283,13 @@ module _ (t : Text) (g : Graph) (v : Values) (w : Stacks) (inv : IsStackInvarian
 
         each : (r : ℕ) → IsRegister r → IsHeld (v.at b r) (reg after r)
         each r is = ⊎_elim (register_in v inv.registers a b i before after kept holds adds so zero_before size_before zero_after size_after told.registers r is)
-            (λ (x : Covers (v.at b r) (name_arc v w b (w.name b r)) ⊎ IsSubtracted v i a b r ⊎ IsCellLoaded v w i a b r). ⊎_elim
+            (λ (x : Covers (v.at b r) (name_arc v w b (w.name b r)) ⊎ IsSubtracted v i a b r ⊎ IsCellLoaded v w i a b r ⊎ IsToldTo v (w.told a) i a b r). ⊎_elim
             (λ (c : Covers (v.at b r) (name_arc v w b (w.name b r))). in_covers (name_arc v w b (w.name b r)) (v.at b r) (reg after r) (name_arc_in v w b (w.name b r) then (reg after r) begins words small_then (names r is)) c)
-            (λ (y : IsSubtracted v i a b r ⊎ IsCellLoaded v w i a b r). ⊎_elim
+            (λ (y : IsSubtracted v i a b r ⊎ IsCellLoaded v w i a b r ⊎ IsToldTo v (w.told a) i a b r). ⊎_elim
             (λ (c : IsSubtracted v i a b r). subtracted v inv.registers a b i before after kept sums results zero_before size_before told.registers r is c)
-            (λ (c : IsCellLoaded v w i a b r). cell_loaded v w i a b r before after bytes held_before told.cells (λ op rs1 offset. reads op r rs1 offset is) c) y) x) (p.registers r is)
+            (λ (z : IsCellLoaded v w i a b r ⊎ IsToldTo v (w.told a) i a b r). ⊎_elim
+            (λ (c : IsCellLoaded v w i a b r). cell_loaded v w i a b r before after bytes held_before told.cells (λ op rs1 offset. reads op r rs1 offset is) c)
+            (λ (c : IsToldTo v (w.told a) i a b r). told_to v (w.told a) a b i before after kept holds numbers results zero_before size_before zero_after size_after told.registers.each told.told r is c) z) y) x) (p.registers r is)
 
     -- over an edge
     pub step_frames : (calls : List ℕ) (xs : List View) → Leads g a b → Steps g a b → Frames a begun bytes calls xs → AreTold v w b then × Frames b begun later calls xs
@@ -305,6 +314,7 @@ module _ (t : Text) (g : Graph) (v : Values) (w : Stacks) (inv : IsStackInvarian
         word_spans = λ k. subst (λ n. IsSpanned n fresh (fresh.words k)) (sym (e.beginning.word_spans k)) tt;
         begins = in_covers (v.at a 2) (w.begins (v.function b)) (reg after 2) (subst (IsHeld (v.at a 2)) (sym (kept 2 e.stack)) (told.registers.each 2 two_is)) e.begins;
         cells = cells;
+        told = λ j. subst (λ o. IsTelling o after) (sym (e.beginning.told j)) tt;
       },
       (
         record {
@@ -440,6 +450,7 @@ module _ (t : Text) (g : Graph) (v : Values) (w : Stacks) (inv : IsStackInvarian
         word_spans = λ k. word_span_back k (back.word_spans k);
         begins = begins;
         cells = cells;
+        told = λ j. subst (λ o. IsTelling o after) (sym (back.told j)) tt;
       },
       frames_along u b x.begun later calls xs leads over.1,
     )

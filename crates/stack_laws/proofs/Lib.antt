@@ -4,6 +4,7 @@ pub mod Covering
 pub mod Making
 pub mod Stepping
 pub mod Cells
+pub mod Telling
 pub mod Frames
 pub mod Moving
 pub mod Runs

@@ -6,7 +6,7 @@ use Rattle.scale_base.specs.declared.instruction.LoadOp.{LoadOp}
 use Rattle.scale_base.specs.declared.instruction.LoadOp.TheVariants.{Lb, Lh, Lw, Lbu, Lhu}
 use Rattle.scale_base.specs.declared.instruction.StoreOp.{StoreOp}
 use Rattle.scale_base.specs.declared.instruction.StoreOp.TheVariants.{Sb, Sh, Sw}
-use Rattle.scale_base.specs.declared.instruction.ImmOp.TheVariants.{Addi}
+use Rattle.scale_base.specs.declared.instruction.ImmOp.{ImmOp}
 use Rattle.scale_base.specs.declared.instruction.RegOp.{RegOp}
 use Rattle.scale_base.specs.declared.instruction.Instr.{Instr}
 use Rattle.scale_base.specs.declared.instruction.Instr.TheVariants.{Lui, Auipc, Jal, Jalr, Branch, Load, Store, Imm, Reg, Fence, Ecall, Ebreak}
@@ -241,9 +241,9 @@ module _ (env : Setting) (keyless : env.layout.keyed ≡ None) (v : Values) (w :
     gets k r is h = step_of (λ o. o.end ≡ Went x → reg o.state.regs r ≡ word_at s.bytes (word_address w begun k)) env s i here
         (λ end. loaded_as k r is i h.0 h.1 end) (λ end. let bad : ⊥ = cc in absurd bad) went
 
-    pub sums : (r rs : ℕ) (imm : ℤ) → IsRegister r → i ≡ Imm Addi r rs imm → reg after.regs r ≡ plus (reg s.regs rs) (unsigned imm)
-    sums r rs imm is e = step_of (λ o. o.end ≡ Went x → reg o.state.regs r ≡ plus (reg s.regs rs) (unsigned imm)) env s i here
-        (λ end. subst (λ j. reg (performs env s i j).state.regs r ≡ plus (reg s.regs rs) (unsigned imm)) (sym e) (put s.regs r (imm_result Addi (reg s.regs rs) imm) is size)) (λ end. let bad : ⊥ = cc in absurd bad) went
+    pub numbers : (op : ImmOp) (r rs : ℕ) (imm : ℤ) → IsRegister r → i ≡ Imm op r rs imm → reg after.regs r ≡ imm_result op (reg s.regs rs) imm
+    numbers op r rs imm is e = step_of (λ o. o.end ≡ Went x → reg o.state.regs r ≡ imm_result op (reg s.regs rs) imm) env s i here
+        (λ end. subst (λ j. reg (performs env s i j).state.regs r ≡ imm_result op (reg s.regs rs) imm) (sym e) (put s.regs r (imm_result op (reg s.regs rs) imm) is size)) (λ end. let bad : ⊥ = cc in absurd bad) went
 
     pub results : (op : RegOp) (r rs1 rs2 : ℕ) → IsRegister r → i ≡ Reg op r rs1 rs2 → reg after.regs r ≡ reg_result op (reg s.regs rs1) (reg s.regs rs2)
     results op r rs1 rs2 is e = step_of (λ o. o.end ≡ Went x → reg o.state.regs r ≡ reg_result op (reg s.regs rs1) (reg s.regs rs2)) env s i here

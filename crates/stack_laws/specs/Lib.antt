@@ -1,5 +1,6 @@
 pub mod Making
 pub mod Cells
+pub mod Telling
 pub mod Stacks
 pub mod Counting
 pub mod Returning

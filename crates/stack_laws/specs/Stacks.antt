@@ -18,6 +18,7 @@ use Rattle.bound_laws.specs.Turning.{Leads, Calls}
 use Rattle.bound_laws.specs.Values.{Arc, IsIn, ahead, strided, word, exactly, top_of, sum_of, sum_with, opposite_of, held, IsHeld, Covers, said, passed, line_of, IsImpossible, keeps_at, IsRegister, Values, Steps, IsCovered, IsLineCovered, AreIn}
 use Rattle.stack_laws.specs.Making.{IsLineMade, IsSubtracted}
 use Rattle.stack_laws.specs.Cells.{Cell, IsCellHeld, IsBeside, IsStoredInto, IsLoadedFrom}
+use Rattle.stack_laws.specs.Telling.{Told, IsTelling, IsToldBehind, IsToldTo}
 
 -- ---- where values come from
 
@@ -50,6 +51,9 @@ pub record Stacks : Type 0 where
   pub spared : ℕ → ℕ → Bool
   -- by number, numbers in memory that are always in an interval
   pub cell : ℕ → Option Cell
+  -- By address and a number, before the instruction there: what a register that is 0, or isn't, tells of another one. The numbers of different
+  -- addresses have nothing to do with each other.
+  pub told : ℕ → ℕ → Option Told
 
 -- What the code of a function sees: the registers, the words of its stack by number, the registers when it began, and memory.
 pub record View : Type 0 where
@@ -250,11 +254,12 @@ pub record IsCellLoaded (v : Values) (w : Stacks) (i : Instr) (a b r : ℕ) : Ty
   pub loaded : IsLoadedFrom op (sum_with (held (v.at a) rs1) (unsigned offset)) cell
   pub covers : Covers (v.at b r) (Some cell.values)
 
--- a register's interval at b: as in an invariant of intervals, by its name, by a line of the difference that the instruction writes, or by
--- a cell that it loads
+-- a register's interval at b: as in an invariant of intervals, by its name, by a line of the difference that the instruction writes, by a
+-- cell that it loads, or by what another register tells
 abbrev pub IsCoveredOver : Values → Stacks → Instr → ℕ → ℕ → ℕ → Type 0
 IsCoveredOver v w i a b r =
     IsCovered v i a b r ⊎ Covers (v.at b r) (name_arc v w b (w.name b r)) ⊎ IsSubtracted v i a b r ⊎ IsCellLoaded v w i a b r
+    ⊎ IsToldTo v (w.told a) i a b r
 
 -- the register holds this number alone
 abbrev pub IsExactly : Values → ℕ → ℕ → Arc → Type 0
@@ -316,6 +321,7 @@ pub record ArePassed (v : Values) (w : Stacks) (i : Instr) (a b : ℕ) : Type 0 
   pub word_names : (k : ℕ) → IsWordNamed v w i a b k
   pub spans : (r : ℕ) → IsRegister r → IsSpannedOver v w i a b r
   pub word_spans : (k : ℕ) → IsWordSpanned v w i a b k
+  pub told : (j : ℕ) → IsToldBehind v (w.told a) i a b (w.told b j)
 
 -- all are, or no state comes this way
 abbrev pub IsPassed : Values → Stacks → Instr → ℕ → ℕ → Type 0
@@ -323,13 +329,14 @@ IsPassed v w i a b = IsImpossible (said i a b) (v.at a) ⊎ ArePassed v w i a b
 
 -- ---- into a function
 
--- where a function begins, each register is what it was then, and nothing is known of the words of its stack
+-- where a function begins, each register is what it was then, nothing is known of the words of its stack, and no register tells of others
 pub record IsBeginning (w : Stacks) (a : ℕ) : Type 0 where
   pub names : (r : ℕ) → IsRegister r → (w.name a r ≡ None) ⊎ (w.name a r ≡ Some (of_begin r 0))
   pub words : (k : ℕ) → w.word a k ≡ None
   pub word_names : (k : ℕ) → w.word_name a k ≡ None
   pub spans : (r : ℕ) → IsRegister r → Covers (w.span a r) (name_span (w.name a r))
   pub word_spans : (k : ℕ) → w.word_span a k ≡ None
+  pub told : (j : ℕ) → w.told a j ≡ None
 
 pub record AreEntered (v : Values) (w : Stacks) (i : Instr) (a b : ℕ) : Type 0 where
   pub live : v.live b ≡ true
@@ -399,6 +406,7 @@ pub record AreBack (t : Text) (v : Values) (w : Stacks) (u to b : ℕ) : Type 0 
   pub word_names : (k : ℕ) → IsWordNameBack v w u to b k
   pub spans : (r : ℕ) → IsRegister r → IsSpanBack t v w u to b r
   pub word_spans : (k : ℕ) → IsWordSpanBack v w u to b k
+  pub told : (j : ℕ) → w.told b j ≡ None
 
 -- at a return the register is left, its interval is one of the function's returns, and it is what it was when the function began, where it is restored
 pub record IsReturned (t : Text) (v : Values) (w : Stacks) (a r : ℕ) : Type 0 where
@@ -435,3 +443,4 @@ pub record AreTold (v : Values) (w : Stacks) (a : ℕ) (x : View) : Type 0 where
   pub word_spans : (k : ℕ) → IsSpanned (w.word_span a k) x (x.words k)
   pub begins : IsHeld (w.begins (v.function a)) (reg x.begun 2)
   pub cells : (c : ℕ) → IsCellHeld (w.cell c) x.bytes
+  pub told : (j : ℕ) → IsTelling (w.told a j) x.regs

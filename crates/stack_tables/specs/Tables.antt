@@ -9,14 +9,16 @@ use Rattle.cost_theory.specs.Reached.{Code}
 use Rattle.code_text.specs.Text.{Text, text_of}
 use Rattle.flow_graph.specs.FlowGraph.{IsGraphOf}
 use Rattle.bound_laws.specs.Registers.{Measure}
-use Rattle.bound_laws.specs.Values.{Values, Arc, opposite_of}
+use Rattle.bound_laws.specs.Values.{Values, Arc, IsRegister, opposite_of}
 use Rattle.stack_laws.specs.Cells as cells
 use Rattle.stack_laws.specs.Stacks as stacks
 use Rattle.stack_laws.specs.Stacks.{Stacks}
 use Rattle.stack_laws.specs.Stacks.Name.{of_begin, of_word}
+use Rattle.stack_laws.specs.Telling as telling
 use Rattle.wrapped_intervals.specs.Small.{row, IsKept, IsKeptOr, IsFoundOr}
 use Rattle.value_checks.specs.Tables.{beside, or_other, flag, values_of, AreSized}
 use Rattle.stack_tables.specs.declared.tables.Cell.{Cell}
+use Rattle.stack_tables.specs.declared.tables.Told.{Told}
 use Rattle.stack_tables.specs.declared.tables.Name.{Name}
 use Rattle.stack_tables.specs.declared.tables.Name.TheVariants.{OfBegin, OfWord}
 use Rattle.stack_tables.specs.declared.tables.Word.{Word}
@@ -57,6 +59,19 @@ words_at code stack a = beside [] code.nodes (rows_view stack.words.items) a
 abbrev pub cell_view : Cell → cells.Cell
 cell_view c = record { at = c.at; width = c.width; values = c.values }
 
+abbrev pub told_view : Told → telling.Told
+told_view y = record { teller = y.teller; zero = y.zero; about = y.about; arc = y.arc }
+
+abbrev pub told_rows : List (Vec Told Global) → List (List Told)
+told_rows rows = map (λ (row : Vec Told Global). row.items) rows
+
+-- what a row tells, by number
+abbrev pub told_in : List Told → ℕ → Option telling.Told
+told_in row j = option_map told_view (slice_get row j)
+
+abbrev pub told_at : Code → StackTable → ℕ → List Told
+told_at code stack a = beside [] code.nodes (told_rows stack.told.items) a
+
 abbrev pub stacks_of : Code → StackTable → Stacks
 stacks_of code stack = record {
   name = λ a r. named (name_in (beside [] code.nodes stack.names.items a) r);
@@ -70,6 +85,7 @@ stacks_of code stack = record {
   place = λ k. stack.place;
   spared = λ k a. beside false code.nodes stack.spared.items a;
   cell = λ j. option_map cell_view (slice_get stack.cells.items j);
+  told = λ a j. told_in (told_at code stack a) j;
 }
 
 -- the intervals of a word are short enough to be kept
@@ -88,6 +104,20 @@ IsRowOf words = IsRowOfWords words.items
 abbrev pub HasKeptValues : Cell → Type 0
 HasKeptValues c = IsKept c.values
 
+-- what is told is of registers from x1 on, and its interval short enough to be kept
+pub record IsToldKept (y : Told) : Type 0 where
+  pub teller : IsRegister y.teller
+  pub about : IsRegister y.about
+  pub arc : IsKept y.arc
+
+-- and a row tells at most so much
+pub record IsRowOfTold (row : List Told) : Type 0 where
+  pub few : length row ≤ 8
+  pub kept : All IsToldKept row
+
+abbrev pub IsToldRow : Vec Told Global → Type 0
+IsToldRow row = IsRowOfTold row.items
+
 -- a table with a row for each node and each function, all of them short enough to be kept
 pub record AreStacksSized (code : Code) (stack : StackTable) : Type 0 where
   pub names : length stack.names.items ≡ length code.nodes
@@ -102,6 +132,8 @@ pub record AreStacksSized (code : Code) (stack : StackTable) : Type 0 where
   pub place_kept : IsKeptOr stack.place
   pub cells_few : length stack.cells.items ≤ 1024
   pub cells_kept : All HasKeptValues stack.cells.items
+  pub told : length stack.told.items ≡ length code.nodes
+  pub told_kept : All IsToldRow stack.told.items
 
 -- two tables with their numbers for a program
 pub record IsStackClaim (c : StackClaim) : Type 0 where

@@ -9,14 +9,14 @@ ghost use Rattle.code_text.specs.Text.{text_of};
 ghost use Rattle.stack_laws.specs.Stacks as stacks;
 ghost use Rattle.wrapped_intervals.specs.Small.{IsKeptOr, measure_view, row};
 ghost use Rattle.value_checks.specs.Tables.{line_in, IsForm, IsLineKept};
-ghost use Rattle.stack_tables.specs.Tables.{HasKeptValues, IsStackClaim, IsUnknown, IsWordKept, address, cell_view, named, stacks_in, text_in, values_in};
+ghost use Rattle.stack_tables.specs.Tables.{HasKeptValues, IsStackClaim, IsToldKept, IsUnknown, IsWordKept, address, cell_view, named, stacks_in, text_in, told_in, values_in};
 
 use crate::claims::StackClaim;
 use crate::rows::{
     arcs_row, begins_row, exits_row, form_row, line_in_row, lines_row, live_row, name_in_row,
-    names_row, restored_row, span_in_row, spared_row, word_in, words_row,
+    names_row, restored_row, span_in_row, spared_row, told_row, word_in, words_row,
 };
-use crate::tables::{Cell, Name, Word};
+use crate::tables::{Cell, Name, Told, Word};
 use code_text::instr_at;
 use elf_image::ImageView;
 use scale_base::Instr;
@@ -229,6 +229,17 @@ pub fn cells<'a>(claim: &StackClaim<'a>) -> &'a [Cell]
     ensures kept { All HasKeptValues result.now }
 {
     &claim.stack.cells
+}
+
+/// What registers tell of others at node k.
+pub fn told<'a>(claim: &StackClaim<'a>, k: usize) -> &'a [Told]
+    requires claim { IsStackClaim claim.now }
+    requires node { k < length claim.now.graph.now.code.nodes }
+    ensures told { (j : ℕ) → told_in result.now j ≡ (stacks_in claim.now).told (address claim.now k) j }
+    ensures few { length result.now ≤ 8 }
+    ensures kept { All IsToldKept result.now }
+{
+    told_row(claim.stack, k)
 }
 
 /// How far word `number` is above what x2 had when its function began, modulo 2^32.

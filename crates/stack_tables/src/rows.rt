@@ -5,9 +5,9 @@ ghost use Rattle.std.specs.List.{All};
 ghost use Rattle.wrapped_intervals.specs.Small.{IsKeptOr, measure_view, row};
 ghost use Rattle.value_checks.specs.Tables.{flag, form_in, line_in, line_rows, or_other, IsForm, IsLineKept};
 ghost use Rattle.value_checks.specs.Tables as lines;
-ghost use Rattle.stack_tables.specs.Tables.{IsRowOf, IsRowOfWords, IsWordKept, arc_of, name_in, name_of_word, named, rows_view, span_of_word};
+ghost use Rattle.stack_tables.specs.Tables.{IsRowOf, IsRowOfTold, IsRowOfWords, IsToldRow, IsWordKept, arc_of, name_in, name_of_word, named, rows_view, span_of_word, told_rows};
 
-use crate::tables::{Name, StackTable, Word};
+use crate::tables::{Name, StackTable, Told, Word};
 use value_checks::{Line, ValueTable};
 use wrapped_intervals::{Arc, Measure};
 
@@ -123,6 +123,16 @@ pub fn word_in(words: &[Word], k: u32) -> Word
             span: None,
         },
     }
+}
+
+/// What is told at node k.
+pub fn told_row(stack: &StackTable, k: usize) -> &[Told]
+    requires row { k < length stack.now.told.items }
+    requires kept { All IsToldRow stack.now.told.items }
+    ensures row { result.now ≡ or_other [] (slice_get (told_rows stack.now.told.items) k) }
+    ensures told { IsRowOfTold result.now }
+{
+    &stack.told[k]
 }
 
 /// The form of a number: behind the last one, one of which nothing is known.

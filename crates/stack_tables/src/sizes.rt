@@ -3,10 +3,10 @@
 ghost use Rattle.std.specs.Prelude.{◌≡◌, true};
 ghost use Rattle.std.specs.List.{All};
 ghost use Rattle.wrapped_intervals.specs.Small.{IsKeptOr};
-ghost use Rattle.stack_tables.specs.Tables.{AreStacksSized, HasKeptValues, IsRowOf, IsRowOfWords, IsWordKept};
+ghost use Rattle.stack_tables.specs.Tables.{AreStacksSized, HasKeptValues, IsRowOf, IsRowOfTold, IsRowOfWords, IsToldKept, IsToldRow, IsWordKept};
 
 use crate::stores::MOST_WORDS;
-use crate::tables::{Cell, MOST_CELLS, StackTable, Word};
+use crate::tables::{Cell, MOST_CELLS, MOST_TOLD, StackTable, Told, Word};
 use flow_graph::CodeGraph;
 use value_checks::{are_arcs_kept, are_rows_kept};
 use wrapped_intervals::is_kept;
@@ -61,6 +61,48 @@ fn are_cells_kept(cells: &[Cell]) -> bool
     true
 }
 
+// Whether what is told is of registers from x1 on, with an interval that is kept.
+fn is_told_kept(told: Told) -> bool
+    ensures { result ≡ true → IsToldKept told }
+{
+    0 < told.teller
+        && told.teller < 32
+        && 0 < told.about
+        && told.about < 32
+        && is_kept(Some(told.arc))
+}
+
+// The same of all that a node tells.
+fn are_told_kept(row: &[Told]) -> bool
+    ensures { result ≡ true → All IsToldKept row.now }
+{
+    for told in row {
+        if !is_told_kept(*told) {
+            return false;
+        }
+    }
+    true
+}
+
+// The same, of no more than a node may tell.
+fn is_row_of_told(row: &[Told]) -> bool
+    ensures { result ≡ true → IsRowOfTold row.now }
+{
+    row.len() <= MOST_TOLD && are_told_kept(row)
+}
+
+// The same of each node.
+fn are_rows_of_told(rows: &[Vec<Told>]) -> bool
+    ensures { result ≡ true → All IsToldRow rows.now }
+{
+    for row in rows {
+        if !is_row_of_told(row) {
+            return false;
+        }
+    }
+    true
+}
+
 // Whether all intervals of a table are kept.
 fn are_all_kept(stack: &StackTable) -> bool
     ensures spans { result ≡ true → All (All IsKeptOr) stack.now.spans.items }
@@ -68,16 +110,18 @@ fn are_all_kept(stack: &StackTable) -> bool
     ensures begins { result ≡ true → All IsKeptOr stack.now.begins.items }
     ensures place { result ≡ true → IsKeptOr stack.now.place }
     ensures cells { result ≡ true → All HasKeptValues stack.now.cells.items }
+    ensures told { result ≡ true → All IsToldRow stack.now.told.items }
 {
     are_rows_kept(&stack.spans)
         && are_rows_of_words(&stack.words)
         && are_arcs_kept(&stack.begins)
         && is_kept(stack.place)
         && are_cells_kept(&stack.cells)
+        && are_rows_of_told(&stack.told)
 }
 
-/// Whether a table has a row for each node and each function of a graph, with intervals that are kept, rows of at most so many words,
-/// and at most so many numbers in memory.
+/// Whether a table has a row for each node and each function of a graph, with intervals that are kept, rows of at most so many words
+/// and of at most so much that is told, and at most so many numbers in memory.
 pub fn is_stack_sized(graph: &CodeGraph, stack: &StackTable) -> bool
     ensures { result ≡ true → AreStacksSized graph.now.code stack.now }
 {
@@ -90,5 +134,6 @@ pub fn is_stack_sized(graph: &CodeGraph, stack: &StackTable) -> bool
         && stack.begins.len() == functions
         && stack.restored.len() == functions
         && stack.cells.len() <= MOST_CELLS
+        && stack.told.len() == nodes
         && are_all_kept(stack)
 }

@@ -29,11 +29,23 @@ pub struct Cell {
     pub values: Arc,
 }
 
+/// Where a register, the teller, is 0, if `zero`, or where it isn't, otherwise, the register `about` is in an interval.
+#[derive(Clone, Copy, PartialEq, Eq)]
+pub struct Told {
+    pub teller: u8,
+    pub zero: bool,
+    pub about: u8,
+    pub arc: Arc,
+}
+
+/// How many of them a node has at most.
+pub const MOST_TOLD: usize = 8;
+
 /// By node and register, before its instruction, where the value comes from and how far above the function's first x2 it points; by node
 /// and number, the words of the function's stack, of which nothing is known behind the last; by function, what x2 has when it begins, and
 /// which registers are at its returns what they were then; where the words of functions that wait for a call may be; and by node, whether
-/// nothing is stored to those words from here on up to the function's return, in what is called neither. And wherever the run is, numbers
-/// in memory that are always in an interval.
+/// nothing is stored to those words from here on up to the function's return, in what is called neither. Wherever the run is, numbers in
+/// memory that are always in an interval. And by node, what registers tell of others.
 #[derive(Drop)]
 pub struct StackTable {
     pub names: Vec<[Option<Name>; 32]>,
@@ -44,4 +56,5 @@ pub struct StackTable {
     pub place: Option<Arc>,
     pub spared: Vec<bool>,
     pub cells: Vec<Cell>,
+    pub told: Vec<Vec<Told>>,
 }

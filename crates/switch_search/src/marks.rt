@@ -4,7 +4,7 @@ ghost use Rattle.std.specs.Prelude.{◌<◌, ◌^◌, IfSome};
 
 use level_tables::LevelBudgets;
 use power_model::Power;
-use run_traces::{EdgeNumbers, StubCosts, may_switch};
+use run_traces::{StubCosts, TracedEdge, may_switch};
 use scale_base::EdgeKind;
 
 /// A switch to the lowest level on an edge. The numbers are in cycles: what a pass takes more, what a pass of either edge of the instruction takes
@@ -31,7 +31,7 @@ fn least_behind(least: Option<u128>, tail: u64) -> Option<u128> {
 
 /// What a switch adds to the worst case at most. An edge with more slack than the code of the switch takes is on no worst way, but the
 /// other edge of its branch may be, which pays for the jumps.
-fn added_cycles(numbers: &EdgeNumbers, branch: bool, code: u64, jumps: u64) -> u64 {
+fn added_cycles(numbers: &TracedEdge, branch: bool, code: u64, jumps: u64) -> u64 {
     if branch {
         let each = code.saturating_sub(numbers.slack);
         let over = numbers.passes.saturating_mul(each);
@@ -43,7 +43,7 @@ fn added_cycles(numbers: &EdgeNumbers, branch: bool, code: u64, jumps: u64) -> u
 }
 
 /// A switch on an edge, if it may have one.
-pub fn mark_of(numbers: &EdgeNumbers, costs: &StubCosts) -> Option<Mark> {
+pub fn mark_of(numbers: &TracedEdge, costs: &StubCosts) -> Option<Mark> {
     if !may_switch(numbers.edge.kind) {
         return None;
     }

@@ -10,9 +10,10 @@ use Rattle.stack_tables.specs.declared.claims.StackClaim.{StackClaim}
 use Rattle.value_checks.proofs.Laws.{once}
 use Rattle.stack_tables.specs.Tables.{address, stacks_in, text_in, values_in, IsStackClaim}
 use Rattle.stack_tables.proofs.Laws.{address_is}
-use Rattle.turn_laws.specs.Relating.{Place, Relation, is_halving, place_arc, IsBegun, IsOwnBack, IsOwnOver, IsPlaceBack, IsPlaceOver, IsStarted, IsTurnBack, IsTurnOver, IsTurned, IsUsed}
+use Rattle.turn_laws.specs.Relating.{Kind, Place, Relation, is_halving, IsBegun, IsFilled, IsOwnBack, IsOwnOn, IsPlaceBack, IsPlaceOn, IsStarted, IsStartedIn, IsTurnBack, IsTurnOver, IsTurned, IsUsed}
 use Rattle.turn_laws.specs.Relating.Relation.{unknown}
 use Rattle.turn_laws.specs.Relating.Place.{in_register}
+use Rattle.turn_laws.specs.Relating.Kind.{lowers}
 use Rattle.turn_checks.specs.declared.tables.Relation as tables
 use Rattle.turn_checks.specs.declared.tables.TurnTable.{TurnTable}
 use Rattle.turn_checks.specs.declared.tables.TurnCase.{TurnCase}
@@ -34,6 +35,10 @@ turned_seen c t p h = h c.graph.now.code.nodes
 pub started_seen : (c : StackClaim) (t : TurnTable) (i j : Option Arc) → i ≡ j → ((nodes : List ℕ) → IsStarted (certificate_of nodes t) (kind_view t.kind) i) → IsStarted (certificate_in c t) (certificate_in c t).kind j
 unfolding certificate_in
 started_seen c t i j same h = subst (λ k. IsStarted (certificate_in c t) (certificate_in c t).kind k) same (h c.graph.now.code.nodes)
+
+pub filled_seen : (c : StackClaim) (t : TurnTable) (most : Option ℕ) → (kind_view t.kind ≡ lowers) × IsFilled most t.width → ((certificate_in c t).kind ≡ lowers) × IsFilled most (certificate_in c t).width
+unfolding certificate_in
+filled_seen c t most h = h
 
 -- ---- edges and registers
 
@@ -77,14 +82,15 @@ header_number c is n lt same = once c.claim.now.graph.now is.claim.graph_is.flow
 pub used_at_header : (c : TurnCase) → IsTurnCase c → (k : ℕ) (i : Instr) → IsUsed (values_in c.claim.now) (cert c) (address c.claim.now k) i (address c.claim.now c.header) → IsUsed (values_in c.claim.now) (cert c) (address c.claim.now k) i c.note.now.header
 used_at_header c is k i used = subst (λ (b : ℕ). IsUsed (values_in c.claim.now) (cert c) (address c.claim.now k) i b) is.header_is used
 
-pub turn_over_in : (c : TurnCase) (k : ℕ) (i : Instr) → IsPlaceOver (values_in c.claim.now) (stacks_in c.claim.now) (cert c) (address c.claim.now k) i (place_view c.table.now.place) (relation_view c.table.now.end) →
+pub turn_over_in : (c : TurnCase) → IsTurnCase c → (k : ℕ) (i : Instr) → IsPlaceOn (values_in c.claim.now) (stacks_in c.claim.now) (cert c) (address c.claim.now k) i (address c.claim.now c.header) (place_view c.table.now.place) (relation_view c.table.now.end) →
     ((nodes : List ℕ) → IsTurned (certificate_of nodes c.table.now) (kind_view c.table.now.kind) (relation_view c.table.now.end)) →
     (is_halving (kind_view c.table.now.kind) ≡ true → IsUsed (values_in c.claim.now) (cert c) (address c.claim.now k) i c.note.now.header) →
     IsTurnOver (values_in c.claim.now) (stacks_in c.claim.now) (cert c) (address c.claim.now k) i c.note.now.header
-turn_over_in c k i place turned used = (
+turn_over_in c is k i place turned used = (
   (
     relation_view c.table.now.end,
-    subst (λ (p : Place). IsPlaceOver (values_in c.claim.now) (stacks_in c.claim.now) (cert c) (address c.claim.now k) i p (relation_view c.table.now.end)) (sym (place_seen c.claim.now c.table.now)) place,
+    subst (λ (b : ℕ). IsPlaceOn (values_in c.claim.now) (stacks_in c.claim.now) (cert c) (address c.claim.now k) i b (cert c).place (relation_view c.table.now.end)) is.header_is
+        (subst (λ (p : Place). IsPlaceOn (values_in c.claim.now) (stacks_in c.claim.now) (cert c) (address c.claim.now k) i (address c.claim.now c.header) p (relation_view c.table.now.end)) (sym (place_seen c.claim.now c.table.now)) place),
     turned_seen c.claim.now c.table.now (relation_view c.table.now.end) turned,
   ),
   λ half. used (sym (ap is_halving (kind_seen c.claim.now c.table.now)) ∙ half),
@@ -103,9 +109,9 @@ turn_back_in c k h place turned used = (
   λ half. used (sym (ap is_halving (kind_seen c.claim.now c.table.now)) ∙ half),
 )
 
-pub own_over_in : (c : TurnCase) (k : ℕ) (i : Instr) (n : ℕ) → IsOwnOver (values_in c.claim.now) (stacks_in c.claim.now) (cert c) (address c.claim.now k) i (place_view c.table.now.place) ((cert c).own (address c.claim.now n)) →
-    IsOwnOver (values_in c.claim.now) (stacks_in c.claim.now) (cert c) (address c.claim.now k) i (cert c).place ((cert c).own (address c.claim.now n))
-own_over_in c k i n own = subst (λ (p : Place). IsOwnOver (values_in c.claim.now) (stacks_in c.claim.now) (cert c) (address c.claim.now k) i p ((cert c).own (address c.claim.now n))) (sym (place_seen c.claim.now c.table.now)) own
+pub own_over_in : (c : TurnCase) (k : ℕ) (i : Instr) (n : ℕ) → IsOwnOn (values_in c.claim.now) (stacks_in c.claim.now) (cert c) (address c.claim.now k) i (address c.claim.now n) (place_view c.table.now.place) ((cert c).own (address c.claim.now n)) →
+    IsOwnOn (values_in c.claim.now) (stacks_in c.claim.now) (cert c) (address c.claim.now k) i (address c.claim.now n) (cert c).place ((cert c).own (address c.claim.now n))
+own_over_in c k i n own = subst (λ (p : Place). IsOwnOn (values_in c.claim.now) (stacks_in c.claim.now) (cert c) (address c.claim.now k) i (address c.claim.now n) p ((cert c).own (address c.claim.now n))) (sym (place_seen c.claim.now c.table.now)) own
 
 pub own_back_in : (c : TurnCase) (k h n : ℕ) (b : tables.Relation) → relation_view b ≡ (cert c).own (address c.claim.now n) →
     IsOwnBack (values_in c.claim.now) (stacks_in c.claim.now) (cert c) (address c.claim.now k) (address c.claim.now h) (place_view c.table.now.place) (relation_view b) →
@@ -119,10 +125,9 @@ pub rows_begun_in : (c : TurnCase) → ((r : ℕ) → IsRegister r → ((cert c)
 rows_begun_in c rows = subst (λ (p : Place). (r : ℕ) → IsRegister r → ((cert c).row (address c.claim.now c.header) r ≡ unknown) ⊎ ((p ≡ in_register r) × IsBegun ((cert c).row (address c.claim.now c.header) r)))
     (sym (place_seen c.claim.now c.table.now)) rows
 
-pub started_in : (c : TurnCase) (i : Option Arc) → i ≡ place_arc (values_in c.claim.now) (stacks_in c.claim.now) (address c.claim.now c.header) (place_view c.table.now.place) →
-    ((nodes : List ℕ) → IsStarted (certificate_of nodes c.table.now) (kind_view c.table.now.kind) i) → IsStarted (cert c) (cert c).kind (place_arc (values_in c.claim.now) (stacks_in c.claim.now) (address c.claim.now c.header) (cert c).place)
-started_in c i same h = started_seen c.claim.now c.table.now i (place_arc (values_in c.claim.now) (stacks_in c.claim.now) (address c.claim.now c.header) (cert c).place)
-    (same ∙ ap (place_arc (values_in c.claim.now) (stacks_in c.claim.now) (address c.claim.now c.header)) (sym (place_seen c.claim.now c.table.now))) h
+pub started_in : (c : TurnCase) → IsStartedIn (values_in c.claim.now) (stacks_in c.claim.now) c.most (cert c) (address c.claim.now c.header) (place_view c.table.now.place) →
+    IsStartedIn (values_in c.claim.now) (stacks_in c.claim.now) c.most (cert c) (address c.claim.now c.header) (cert c).place
+started_in c h = subst (λ (p : Place). IsStartedIn (values_in c.claim.now) (stacks_in c.claim.now) c.most (cert c) (address c.claim.now c.header) p) (sym (place_seen c.claim.now c.table.now)) h
 
 pub case_in : (c : TurnCase) → IsStackClaim c.claim.now → slice_get c.claim.now.graph.now.code.nodes c.header ≡ Some c.note.now.header → AreTurns c.claim.now.graph.now.code.nodes c.table.now → IsTurnCase c
 case_in c is at sized = record {

@@ -22,8 +22,8 @@ entry_text : (c : TurnCase) → (text_in c.claim.now).entry ≡ c.claim.now.view
 unfolding text_in
 entry_text c = refl
 
-certificate : (c : TurnCase) → IsTurnCase c → IsHeaderSo (values_in c.claim.now) (stacks_in c.claim.now) (cert c) (address c.claim.now c.header) → IsEntrySo c → AreEdgesTurned c →
-    IsTurnCertificate (text_in c.claim.now) (graph c.claim.now.graph.now) (values_in c.claim.now) (stacks_in c.claim.now) c.note.now.header (λ v. in_extent c.note.now v) (cert c)
+certificate : (c : TurnCase) → IsTurnCase c → IsHeaderSo (values_in c.claim.now) (stacks_in c.claim.now) c.most (cert c) (address c.claim.now c.header) → IsEntrySo c → AreEdgesTurned c →
+    IsTurnCertificate (text_in c.claim.now) (graph c.claim.now.graph.now) (values_in c.claim.now) (stacks_in c.claim.now) c.most c.note.now.header (λ v. in_extent c.note.now v) (cert c)
 certificate c is head begun given = record {
   first = header.first;
   rows = header.rows;
@@ -63,8 +63,8 @@ certificate c is head begun given = record {
     h : ℕ
     h = c.note.now.header
 
-    header : IsHeaderSo v w (cert c) h
-    header = subst (λ (a : ℕ). IsHeaderSo v w (cert c) a) is.header_is head
+    header : IsHeaderSo v w c.most (cert c) h
+    header = subst (λ (a : ℕ). IsHeaderSo v w c.most (cert c) a) is.header_is head
 
     alive : (e : ℕ) → e < g.edges → (a : ℕ) → g.source e ≡ a → v.live a ≡ true → IsLiveSo c g a e
     alive e lt a source live = subst (λ (x : ℕ). IsLiveSo c g x e) source ((given e lt).live (ap v.live source ∙ live))
@@ -98,10 +98,10 @@ certificate c is head begun given = record {
         let same : begun.0 ≡ c.header = begun.2 (subst (λ (a : ℕ). (cert c).body a ≡ true) at on) in
         at ∙ (ap (address c.claim.now) same ∙ is.header_is)
 
-shown_in : (c : TurnCase) → IsTurnCase c → IsHeaderSo (values_in c.claim.now) (stacks_in c.claim.now) (cert c) (address c.claim.now c.header) → IsEntrySo c → AreEdgesTurned c →
-    IsTurnCertificate (text_in c.claim.now) (text_graph (text_in c.claim.now) c.claim.now.graph.now.code) (values_in c.claim.now) (stacks_in c.claim.now) c.note.now.header (λ v. in_extent c.note.now v) (cert c)
+shown_in : (c : TurnCase) → IsTurnCase c → IsHeaderSo (values_in c.claim.now) (stacks_in c.claim.now) c.most (cert c) (address c.claim.now c.header) → IsEntrySo c → AreEdgesTurned c →
+    IsTurnCertificate (text_in c.claim.now) (text_graph (text_in c.claim.now) c.claim.now.graph.now.code) (values_in c.claim.now) (stacks_in c.claim.now) c.most c.note.now.header (λ v. in_extent c.note.now v) (cert c)
 unfolding text_in
-shown_in c is head begun given = subst (λ (g : Graph). IsTurnCertificate (text_in c.claim.now) g (values_in c.claim.now) (stacks_in c.claim.now) c.note.now.header (λ v. in_extent c.note.now v) (cert c))
+shown_in c is head begun given = subst (λ (g : Graph). IsTurnCertificate (text_in c.claim.now) g (values_in c.claim.now) (stacks_in c.claim.now) c.most c.note.now.header (λ v. in_extent c.note.now v) (cert c))
     (sym is.claim.graph_is.graph_is) (certificate c is head begun given)
 
 positive_in : (c : TurnCase) → 0 < c.table.now.least → 0 < (cert c).least
@@ -112,13 +112,13 @@ enough_in : (c : TurnCase) (bound : ℕ) → c.table.now.width / c.table.now.lea
 unfolding certificate_in
 enough_in c bound h = h
 
-pub shown : (c : TurnCase) → IsTurnCase c → IsHeaderSo (values_in c.claim.now) (stacks_in c.claim.now) (cert c) (address c.claim.now c.header) → IsEntrySo c →
+pub shown : (c : TurnCase) → IsTurnCase c → IsHeaderSo (values_in c.claim.now) (stacks_in c.claim.now) c.most (cert c) (address c.claim.now c.header) → IsEntrySo c →
     (0 < c.table.now.least) × (c.table.now.width / c.table.now.least ≤ c.note.now.bound) → AreEdgesTurned c → (notes : List LoopNote) (k : ℕ) → note_at notes k ≡ c.note.now →
-    IsTurnShown (claim_text c.claim.now) (text_graph (claim_text c.claim.now) c.claim.now.graph.now.code) (claim_values c.claim.now) (claim_stacks c.claim.now) (noted_loops notes) k
+    IsTurnShown (claim_text c.claim.now) (text_graph (claim_text c.claim.now) c.claim.now.graph.now.code) (claim_values c.claim.now) (claim_stacks c.claim.now) c.most (noted_loops notes) k
 unfolding text_in values_in stacks_in
 shown c is head begun enough given notes k same = record {
   certificate = cert c;
-  is = subst (λ (note : LoopNote). IsTurnCertificate (text_in c.claim.now) (text_graph (text_in c.claim.now) c.claim.now.graph.now.code) (values_in c.claim.now) (stacks_in c.claim.now) note.header (λ v. in_extent note v) (cert c)) (sym same) (shown_in c is head begun given);
+  is = subst (λ (note : LoopNote). IsTurnCertificate (text_in c.claim.now) (text_graph (text_in c.claim.now) c.claim.now.graph.now.code) (values_in c.claim.now) (stacks_in c.claim.now) c.most note.header (λ v. in_extent note v) (cert c)) (sym same) (shown_in c is head begun given);
   positive = positive_in c enough.0;
   enough = subst (λ (note : LoopNote). (cert c).width / (cert c).least ≤ note.bound) (sym same) (enough_in c c.note.now.bound enough.1);
 }

@@ -14,13 +14,13 @@ use Rattle.value_checks.specs.Tables.{beside, or_other}
 use Rattle.stack_tables.specs.declared.claims.StackClaim.{StackClaim}
 use Rattle.turn_laws.specs.Relating as relating
 use Rattle.turn_laws.specs.Relating.{TurnCertificate}
-use Rattle.turn_laws.specs.Relating.Relation.{unknown, ahead_by, below, above}
-use Rattle.turn_laws.specs.Relating.Place.{in_register, in_word}
+use Rattle.turn_laws.specs.Relating.Relation.{unknown, ahead_by, below, above, read}
+use Rattle.turn_laws.specs.Relating.Place.{in_register, in_word, in_input}
 use Rattle.turn_laws.specs.Relating.Kind.{moves, lowers, raises, halves}
 use Rattle.turn_checks.specs.declared.tables.Relation.{Relation}
-use Rattle.turn_checks.specs.declared.tables.Relation.TheVariants.{Unknown, Ahead, Below, Above}
+use Rattle.turn_checks.specs.declared.tables.Relation.TheVariants.{Unknown, Ahead, Below, Above, Read}
 use Rattle.turn_checks.specs.declared.tables.TurnPlace.{TurnPlace}
-use Rattle.turn_checks.specs.declared.tables.TurnPlace.TheVariants.{Register, Word}
+use Rattle.turn_checks.specs.declared.tables.TurnPlace.TheVariants.{Register, Word, Input}
 use Rattle.turn_checks.specs.declared.tables.TurnKind.{TurnKind}
 use Rattle.turn_checks.specs.declared.tables.TurnKind.TheVariants.{Moves, Lowers, Raises, Halves}
 use Rattle.turn_checks.specs.declared.tables.TurnTable.{TurnTable}
@@ -32,10 +32,12 @@ relation_view Unknown = unknown
 relation_view (Ahead low more) = ahead_by (Some (arc low more))
 relation_view (Below less shift) = below less shift
 relation_view (Above more) = above more
+relation_view (Read less) = read less
 
 abbrev pub place_view : TurnPlace → relating.Place
 place_view (Register r) = in_register r
 place_view (Word k) = in_word k
+place_view Input = in_input
 
 abbrev pub kind_view : TurnKind → relating.Kind
 kind_view (Moves factor shift) = moves factor shift
@@ -93,7 +95,7 @@ at_of c k = address c.claim.now k
 -- over a step from a to b, which isn't the header
 pub record AreOver (v : Values) (w : Stacks) (c : TurnCertificate) (a : ℕ) (i : Instr) (b : ℕ) : Type 0 where
   pub rows : (r : ℕ) → IsRegister r → relating.IsRowOn v w c a i b r (c.row b r)
-  pub own : relating.IsOwnOver v w c a i c.place (c.own b)
+  pub own : relating.IsOwnOn v w c a i b c.place (c.own b)
   pub used : c.used b ≡ true → relating.IsUsed v c a i b
 
 -- behind a call at a, where it comes back to b, which isn't the header
@@ -140,12 +142,12 @@ pub record IsEdgeTurned (c : TurnCase) (g : Graph) (e : ℕ) : Type 0 where
   pub live : (values_in c.claim.now).live (g.source e) ≡ true → IsLiveSo c g (g.source e) e
 
 -- of the header
-pub record IsHeaderSo (v : Values) (w : Stacks) (c : TurnCertificate) (h : ℕ) : Type 0 where
+pub record IsHeaderSo (v : Values) (w : Stacks) (most : Option ℕ) (c : TurnCertificate) (h : ℕ) : Type 0 where
   pub first : c.body h ≡ true
   pub rows : (r : ℕ) → IsRegister r → (c.row h r ≡ unknown) ⊎ ((c.place ≡ in_register r) × relating.IsBegun (c.row h r))
   pub owns : relating.IsBegun (c.own h)
   pub unused : c.used h ≡ false
-  pub started : relating.IsStarted c c.kind (relating.place_arc v w h c.place)
+  pub started : relating.IsStartedIn v w most c h c.place
   pub quiet : c.quiet h ≡ false
 
 -- of the start of a run

@@ -7,7 +7,7 @@ ghost use Rattle.turn_laws.specs.Relating as relating;
 ghost use Rattle.turn_checks.specs.Turned.{at_of, cert, place_view, relation_view, IsTurnCase};
 ghost use Rattle.turn_laws.specs.Relating.Place.{in_word};
 
-use crate::relations::is_weaker;
+use crate::relations::{consumed_by, is_weaker};
 use crate::rows::{own_at, row_at};
 use crate::tables::{Call, Relation, TurnCase, TurnPlace};
 use stack_tables::{is_given_back, is_safe};
@@ -43,7 +43,7 @@ fn is_word_back(case: &TurnCase<'_>, k: usize, h: usize, word: u32, b: Relation)
     is_weaker(b, own_at(case.claim, case.table, k)) && is_safe(case.claim, k, h, word)
 }
 
-/// Whether it is one of a word that is counted in.
+/// Whether it is one of a word that is counted in, or of what is left of the input.
 pub fn is_own_back(case: &TurnCase<'_>, k: usize, h: usize, b: Relation) -> bool
     requires case { IsTurnCase case.now }
     requires from { k < length case.now.claim.now.graph.now.code.nodes }
@@ -54,5 +54,6 @@ pub fn is_own_back(case: &TurnCase<'_>, k: usize, h: usize, b: Relation) -> bool
     match case.table.place {
         TurnPlace::Register(_) => true,
         TurnPlace::Word(word) => is_word_back(case, k, h, word, b),
+        TurnPlace::Input => consumed_by(b) <= consumed_by(own_at(case.claim, case.table, k)),
     }
 }

@@ -14,6 +14,8 @@ use crate::backs::{is_own_back, is_row_back};
 use crate::compared::{is_never, is_row_on};
 use crate::ends::{is_turn_back, is_turn_over};
 use crate::made::is_word_over;
+use crate::reading::is_taken_on;
+use crate::relations::consumed_by;
 use crate::rows::{is_body, is_quiet, is_used, own_at, row_at};
 use crate::tables::{Call, Step, TurnCase, TurnPlace};
 use crate::using::is_used_over;
@@ -36,19 +38,19 @@ fn are_rows_over(case: &TurnCase<'_>, step: Step) -> bool
     true
 }
 
-// The same of a word that is counted in.
-fn is_own_over(case: &TurnCase<'_>, i: Instr, k: usize, n: usize) -> bool
+// The same of a word that is counted in, or of what is left of the input.
+fn is_own_on(case: &TurnCase<'_>, step: Step) -> bool
     requires case { IsTurnCase case.now }
-    requires from { k < length case.now.claim.now.graph.now.code.nodes }
-    requires to { n < length case.now.claim.now.graph.now.code.nodes }
-    ensures { result ≡ true → relating.IsOwnOver (values_in case.now.claim.now) (stacks_in case.now.claim.now) (cert case.now)
-        (at_of case.now k) i (place_view case.now.table.now.place) ((cert case.now).own (at_of case.now n)) }
+    requires step { IsStep case.now step }
+    ensures { result ≡ true → relating.IsOwnOn (values_in case.now.claim.now) (stacks_in case.now.claim.now) (cert case.now)
+        (at_of case.now step.from) step.instr (at_of case.now step.to) (place_view case.now.table.now.place)
+        ((cert case.now).own (at_of case.now step.to)) }
 {
+    let own = own_at(case.claim, case.table, step.to);
     match case.table.place {
         TurnPlace::Register(_) => true,
-        TurnPlace::Word(word) => {
-            is_word_over(case, i, k, word, own_at(case.claim, case.table, n))
-        }
+        TurnPlace::Word(word) => is_word_over(case, step.instr, step.from, word, own),
+        TurnPlace::Input => is_taken_on(case, step, consumed_by(own)),
     }
 }
 
@@ -68,7 +70,7 @@ fn are_over(case: &TurnCase<'_>, i: Instr, k: usize, n: usize) -> bool
     if !are_rows_over(case, step) {
         return false;
     }
-    if !is_own_over(case, i, k, n) {
+    if !is_own_on(case, step) {
         return false;
     }
     !is_used(case.claim, case.table, n) || is_used_over(case, i, k, n)

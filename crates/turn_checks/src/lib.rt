@@ -1,5 +1,5 @@
-//! Tables of what each turn of a loop makes of a register or of a word of the stack, which the code confirms edge by edge, as `turn_laws` says
-//! certificates.
+//! Tables of what each turn of a loop makes of a register, of a word of the stack, or of what is left of the input, which the code confirms
+//! edge by edge, as `turn_laws` says certificates.
 #![tactic(auto)]
 
 mod backs;
@@ -7,6 +7,7 @@ mod compared;
 mod edges;
 mod ends;
 mod made;
+mod reading;
 mod relations;
 mod rows;
 mod shown;

@@ -8,8 +8,8 @@ ghost use Rattle.turn_laws.specs.Relating as relating;
 ghost use Rattle.turn_checks.specs.Turned.{AreTurns, certificate_in, relation_view};
 
 use crate::relations::{
-    is_divided, is_low, is_lowered, is_moved_back, is_moved_by_arc, is_moved_by_number,
-    is_multiplied, is_weaker, least_of,
+    consumed_by, is_divided, is_low, is_lowered, is_moved_back, is_moved_by_arc,
+    is_moved_by_number, is_multiplied, is_one, is_weaker, least_of,
 };
 use crate::rows::{own_at, relation_at, row_at};
 use crate::tables::{Relation, TurnCase, TurnPlace, TurnTable};
@@ -283,6 +283,39 @@ fn is_loaded_own(case: &TurnCase<'_>, i: Instr, k: usize, r: u8, b: Relation) ->
             is_weaker(b, own_at(case.claim, case.table, k))
         }
         TurnPlace::Register(_) => false,
+        TurnPlace::Input => false,
+    }
+}
+
+// Whether what is known of the interval of x17 is that a service reads.
+fn is_reading(claim: &StackClaim<'_>, k: usize) -> bool
+    requires claim { IsStackClaim claim.now }
+    requires node { k < length claim.now.graph.now.code.nodes }
+    ensures { result ≡ relating.is_one (values.held ((values_in claim.now).at (address claim.now k)) 17) relating.read_number }
+{
+    is_one(held_at(claim, k, 17), 63)
+}
+
+// Whether the input is counted in, and the register has the answer of a read.
+fn is_read_into(case: &TurnCase<'_>, i: Instr, k: usize, r: u8, b: Relation) -> bool
+    requires claim { IsStackClaim case.now.claim.now }
+    requires node { k < length case.now.claim.now.graph.now.code.nodes }
+    requires sized { AreTurns case.now.claim.now.graph.now.code.nodes case.now.table.now }
+    ensures { result ≡ true → relating.IsReadInto (values_in case.now.claim.now) (certificate_in case.now.claim.now case.now.table.now)
+        (address case.now.claim.now k) i r (relation_view b) }
+{
+    match (case.table.place, i) {
+        (TurnPlace::Input, Instr::Ecall) => {
+            if r != 10 {
+                return false;
+            }
+            if !is_reading(case.claim, k) {
+                return false;
+            }
+            let less = consumed_by(own_at(case.claim, case.table, k));
+            is_weaker(b, Relation::Read(less))
+        }
+        _ => false,
     }
 }
 
@@ -300,7 +333,9 @@ pub fn is_row_over(case: &TurnCase<'_>, i: Instr, k: usize, r: u8, b: Relation) 
     if keeps(r, i) {
         return is_weaker(b, row_at(case.claim, case.table, k, r));
     }
-    is_made_over(case, i, k, r, b) || is_loaded_own(case, i, k, r, b)
+    is_made_over(case, i, k, r, b)
+        || is_loaded_own(case, i, k, r, b)
+        || is_read_into(case, i, k, r, b)
 }
 
 // Whether a register is stored to the word.

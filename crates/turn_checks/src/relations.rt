@@ -30,6 +30,7 @@ pub fn is_weaker(b: Relation, q: Relation) -> bool
             less <= more && shift <= further
         }
         (Relation::Above(more), Relation::Above(most)) => more <= most,
+        (Relation::Read(less), Relation::Read(more)) => less <= more,
         _ => false,
     }
 }
@@ -87,6 +88,7 @@ pub fn is_moved_by_number(b: Relation, q: Relation, i: Option<Arc>, n: u32) -> b
             shift <= further && is_at_least(taken(i, n), more, less)
         }
         (Relation::Above(less), Relation::Above(more)) => is_at_least(added(more, i, n), 0, less),
+        (Relation::Read(less), Relation::Read(more)) => n == 0 && less <= more,
         _ => false,
     }
 }
@@ -249,6 +251,27 @@ pub fn least_of(j: Option<Arc>) -> u64
     }
 }
 
+/// Whether an interval has one word alone.
+pub fn is_one(j: Option<Arc>, n: u64) -> bool
+    requires { IsFoundOr j }
+    ensures { result ≡ relating.is_one j n }
+{
+    match j {
+        Some(i) => i.least() == n && i.top() == n,
+        None => false,
+    }
+}
+
+/// How much at least was taken from the input, by what is left of it.
+pub fn consumed_by(b: Relation) -> u32
+    ensures { result ≡ relating.consumed_by (relation_view b) }
+{
+    match b {
+        Relation::Below(less, _) => less,
+        _ => 0,
+    }
+}
+
 /// Whether a relation says at the header that a number is itself.
 pub fn is_begun(b: Relation) -> bool
     ensures { result ≡ true → relating.IsBegun (relation_view b) }
@@ -258,6 +281,7 @@ pub fn is_begun(b: Relation) -> bool
         Relation::Ahead(low, more) => covers(arc(low, more), Some(Arc::strided(0, 0, 0))),
         Relation::Below(less, shift) => less == 0 && shift == 0,
         Relation::Above(more) => more == 0,
+        Relation::Read(_) => false,
     }
 }
 

@@ -13,6 +13,7 @@ ghost use Rattle.wrapped_intervals.specs.Small.{IsKeptOr};
 ghost use Rattle.turn_laws.specs.Relating as relating;
 ghost use Rattle.turn_laws.specs.Relating.Relation.{unknown};
 ghost use Rattle.turn_laws.specs.Relating.Place.{in_register};
+ghost use Rattle.turn_laws.specs.Relating.Kind.{lowers};
 ghost use Rattle.turn_checks.specs.Turned.{at_of, cert, certificate_of, kind_view, place_view, AreTurns, IsEntrySo, IsHeaderSo, IsTurnCase, AreEdgesTurned};
 
 use crate::edges::is_edge_turned;
@@ -82,16 +83,27 @@ fn is_started(table: &TurnTable, i: Option<Arc>) -> bool
     }
 }
 
-// The interval of what is counted in, at node k.
-fn place_arc(claim: &StackClaim<'_>, place: TurnPlace, k: usize) -> Option<Arc>
-    requires claim { IsStackClaim claim.now }
-    requires node { k < length claim.now.graph.now.code.nodes }
-    ensures arc { result ≡ relating.place_arc (values_in claim.now) (stacks_in claim.now) (address claim.now k) (place_view place) }
-    ensures kept { IsKeptOr result }
+// Whether an input has no more bytes than the width, from which each turn takes something away.
+fn is_filled(table: &TurnTable, most: Option<u32>) -> bool
+    ensures { result ≡ true → (kind_view table.now.kind ≡ lowers) × relating.IsFilled most table.now.width }
 {
-    match place {
-        TurnPlace::Register(r) => held_at(claim, k, r),
-        TurnPlace::Word(number) => word(claim, k, number).arc,
+    match (table.kind, most) {
+        (TurnKind::Lowers, Some(n)) => n <= table.width,
+        _ => false,
+    }
+}
+
+// The same of what is counted in.
+fn is_started_in(case: &TurnCase<'_>) -> bool
+    requires case { IsTurnCase case.now }
+    ensures { result ≡ true → relating.IsStartedIn (values_in case.now.claim.now) (stacks_in case.now.claim.now) case.now.most
+        (cert case.now) (at_of case.now case.now.header) (place_view case.now.table.now.place) }
+{
+    let (claim, table, h) = (case.claim, case.table, case.header);
+    match table.place {
+        TurnPlace::Register(r) => is_started(table, held_at(claim, h, r)),
+        TurnPlace::Word(number) => is_started(table, word(claim, h, number).arc),
+        TurnPlace::Input => is_filled(table, case.most),
     }
 }
 
@@ -109,6 +121,7 @@ fn is_row_begun(case: &TurnCase<'_>, r: u8) -> bool
     match case.table.place {
         TurnPlace::Register(s) => r == s && is_begun(relation),
         TurnPlace::Word(_) => false,
+        TurnPlace::Input => false,
     }
 }
 
@@ -130,14 +143,14 @@ fn are_rows_begun(case: &TurnCase<'_>) -> bool
 // What the code says of the header.
 fn is_header_so(case: &TurnCase<'_>) -> bool
     requires case { IsTurnCase case.now }
-    ensures { result ≡ true → IsHeaderSo (values_in case.now.claim.now) (stacks_in case.now.claim.now) (cert case.now)
+    ensures { result ≡ true → IsHeaderSo (values_in case.now.claim.now) (stacks_in case.now.claim.now) case.now.most (cert case.now)
         (at_of case.now case.now.header) }
 {
     let (claim, table, h) = (case.claim, case.table, case.header);
     if !are_rows_begun(case) {
         return false;
     }
-    if !is_started(table, place_arc(claim, table.place, h)) {
+    if !is_started_in(case) {
         return false;
     }
     if !is_body(claim, table, h) {
@@ -176,11 +189,16 @@ fn are_edges_turned(case: &TurnCase<'_>) -> bool
     true
 }
 
-/// Whether the code shows the bound of a loop's note, by a table of what its turns do.
-pub fn is_turn_shown(claim: &StackClaim<'_>, note: &LoopNote, table: &TurnTable) -> bool
+/// Whether the code shows the bound of a loop's note, by a table of what its turns do, for inputs of so many bytes at most, where that is told.
+pub fn is_turn_shown(
+    claim: &StackClaim<'_>,
+    note: &LoopNote,
+    table: &TurnTable,
+    most: Option<u32>,
+) -> bool
     requires { IsStackClaim claim.now }
     ensures { result ≡ true → (notes : List LoopNote) (k : ℕ) → note_at notes k ≡ note.now →
-        relating.IsTurnShown (text_of claim.now.view.now) (text_graph (text_of claim.now.view.now) claim.now.graph.now.code) (values_of claim.now.graph.now.code claim.now.table.now) (stacks_of claim.now.graph.now.code claim.now.stack.now) (noted_loops notes) k }
+        relating.IsTurnShown (text_of claim.now.view.now) (text_graph (text_of claim.now.view.now) claim.now.graph.now.code) (values_of claim.now.graph.now.code claim.now.table.now) (stacks_of claim.now.graph.now.code claim.now.stack.now) most (noted_loops notes) k }
 {
     let Some(header) = claim.graph.find(note.header) else {
         return false;
@@ -193,6 +211,7 @@ pub fn is_turn_shown(claim: &StackClaim<'_>, note: &LoopNote, table: &TurnTable)
         note,
         header,
         table,
+        most,
     };
     if !is_header_so(&case) {
         return false;

@@ -1,4 +1,4 @@
-//! What each turn of a loop makes of a register or a word of the stack, as a table.
+//! What each turn of a loop makes of a register, of a word of the stack, or of what is left of the input, as a table.
 
 use loop_file::LoopNote;
 use scale_base::Instr;
@@ -6,20 +6,23 @@ use stack_tables::StackClaim;
 
 /// What is known of a value by the number that stood in the counted place when the header was last come to: nothing; that it is more by a
 /// number of the interval from the first on, with so many more, modulo 2^32; that it, and so much more, is at most that number shifted to the
-/// right so many times; or that it is at least that number and so much more.
+/// right so many times; that it is at least that number and so much more; or that it is what a read answered since, an error number, or a
+/// count of bytes which, with what is left of the input and so much more, is at most that number.
 #[derive(Clone, Copy)]
 pub enum Relation {
     Unknown,
     Ahead(u32, u32),
     Below(u32, u32),
     Above(u32),
+    Read(u32),
 }
 
-/// What is counted in: a register, or a word of the stack by its number.
+/// What is counted in: a register, a word of the stack by its number, or the bytes that are left of the input.
 #[derive(Clone, Copy)]
 pub enum TurnPlace {
     Register(u8),
     Word(u32),
+    Input,
 }
 
 /// How turns are counted: each moves a multiple of the number and a shift on, takes something away from the number, adds something to it,
@@ -33,8 +36,8 @@ pub enum TurnKind {
 }
 
 /// Why a loop can't turn often: so many times the least is at most the width. By node: whether it is code of the loop; the relations of the
-/// registers, 32 of them, or none where nothing is known; that of the word that is counted in; whether the number at the header was not 0
-/// where it stands; and whether it may run while a call from the loop is open.
+/// registers, 32 of them, or none where nothing is known; that of the word that is counted in, or of what is left of the input; whether the
+/// number at the header was not 0 where it stands; and whether it may run while a call from the loop is open.
 #[derive(Drop)]
 pub struct TurnTable {
     pub place: TurnPlace,
@@ -50,13 +53,15 @@ pub struct TurnTable {
     pub quiet: Vec<bool>,
 }
 
-/// A table for a noted loop of a program with its tables, and the number of the header's node.
+/// A table for a noted loop of a program with its tables, the number of the header's node, and how many bytes an input has at most, where
+/// that is told.
 #[derive(Clone, Copy)]
 pub struct TurnCase<'a> {
     pub claim: &'a StackClaim<'a>,
     pub note: &'a LoopNote,
     pub header: usize,
     pub table: &'a TurnTable,
+    pub most: Option<u32>,
 }
 
 /// A step that is no call: its instruction, the number of its node, and that of the node to which it leads.

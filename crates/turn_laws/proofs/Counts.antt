@@ -1,5 +1,5 @@
 -- A loop with a certificate of turns turns no more often than its width allows.
-use Rattle.std.proofs.Common.{◌≡◌, ℕ, ◌*◌, ◌<◌, ◌≤◌, ◌^◌, ◌⊎◌, ⊎_elim, Bool, true, false, List, [], ◌∷◌, map, refl, sym, ap, ◌∙◌, subst, Option, Some, None}
+use Rattle.std.proofs.Common.{◌≡◌, ◌≢◌, ℕ, ◌+◌, ◌-◌, ◌*◌, ◌<◌, ◌≤◌, ◌^◌, ◌⊎◌, ⊎_elim, Bool, true, false, List, [], ◌∷◌, map, length, arith, refl, sym, ap, ◌∙◌, subst, Option, Some, None}
 use Rattle.std.specs.Prelude.{All}
 use Rattle.scale_base.specs.declared.instruction.Instr.{Instr}
 use Rattle.scale_base.specs.declared.stepping.Move.TheVariants.{Return}
@@ -24,21 +24,22 @@ use Rattle.bound_laws.specs.Values.{IsHeld, IsImpossible, IsRegister, said, pass
 use Rattle.bound_laws.proofs.Laws.{KeptStep, At, Onward, Way, fetched, over_edge, into_call, back_to, along, site_small, site_back, passed_in, possible, so_behind, no_turns}
 use Rattle.stack_laws.specs.Stacks.{Stacks, View, view_of, IsRestored, IsSafe, IsStackInvariant, AreTold}
 use Rattle.stack_laws.proofs.Laws.{Holds, Returned, over_holds, call_holds, back_holds}
-use Rattle.turn_laws.specs.Relating.{Relation, IsRelated, IsWeaker, Place, stands_in, TurnCertificate, IsTurnCertificate, IsRowBack, IsOwnBack, IsOwnOver, IsPlaceBack, IsPossible, IsUsed, IsEvident}
+use Rattle.turn_laws.specs.Relating.{Relation, IsRelated, IsWeaker, Place, TurnCertificate, IsTurnCertificate, IsRowBack, IsOwnBack, IsOwnOn, IsPlaceBack, IsPossible, IsUsed, IsEvident, IsInputWithin, consumed_by}
 use Rattle.turn_laws.specs.Relating.Relation.{unknown}
-use Rattle.turn_laws.specs.Relating.Place.{in_register, in_word}
+use Rattle.turn_laws.specs.Relating.Place.{in_register, in_word, in_input}
 use Rattle.turn_laws.specs.Laws.{TurnCertificatesBoundTurns}
 use Rattle.turn_laws.proofs.Relations.{weaker_in, same_in}
-use Rattle.turn_laws.proofs.Facts.{Facts, few, fresh, turned}
-use Rattle.turn_laws.proofs.Steps.{row_on, word_holds, place_holds, evident}
+use Rattle.turn_laws.proofs.Inputs.{left, step_falls}
+use Rattle.turn_laws.proofs.Facts.{Facts, IsPlaceRelated, few, fewer, fresh, turned}
+use Rattle.turn_laws.proofs.Steps.{row_on, word_holds, place_holds, taken_holds, evident}
 use Rattle.turn_laws.proofs.Turns.{Level, Mode, IsPassedOn, turned as turned_so, along_edge, along_call, along_return, after_edge, after_call_to}
 use Rattle.turn_laws.proofs.Turns.Mode.{at_level}
 use Rattle.turn_laws.proofs.Turns.Level.{within, elsewhere}
 
 module _ (t : Text) (env : Setting) (ok : IsTextOf t env) (code : Code) (is : IsCodeOf (kind_at t) t.entry code) (fine : HasNoBadWord (kind_at t) t.entry)
     (v : Values) (w : Stacks) (inv : IsStackInvariant t (text_graph t code) v w) (keyless : env.layout.keyed ≡ None) (input : All (λ x. x < 256) env.input)
-    (s : State) (over : IsOverText t s) (at_entry : s.pc ≡ t.entry) (l : Loops) (k : ℕ) (c : TurnCertificate)
-    (cert : IsTurnCertificate t (text_graph t code) v w (l.header k) (l.inside k) c)
+    (s : State) (over : IsOverText t s) (at_entry : s.pc ≡ t.entry) (most : Option ℕ) (short : IsInputWithin most env.input) (l : Loops) (k : ℕ) (c : TurnCertificate)
+    (cert : IsTurnCertificate t (text_graph t code) v w most (l.header k) (l.inside k) c)
     (starts : AreTold v w s.pc (view_of w s.regs s.regs s.bytes)) (bytes : AreBytes s.bytes) where
   abbrev g : Graph
   g = text_graph t code
@@ -46,15 +47,15 @@ module _ (t : Text) (env : Setting) (ok : IsTextOf t env) (code : Code) (is : Is
   abbrev h : ℕ
   h = l.header k
 
-  abbrev Passed : ℕ → ℕ → ℕ → View → Type 0
-  Passed = IsPassedOn t g v w h (l.inside k) c cert (Facts c) (few c)
+  abbrev Passed : ℕ → ℕ → ℕ → ℕ → View → Type 0
+  Passed = IsPassedOn t g v w most h (l.inside k) c cert (Facts c) (few c) (fewer c)
 
   -- a run is where the tables hold, and in a mode of the certificate
   record Stands (u : State) (calls : List ℕ) (d : Carried) : Type 0 where
     begun : List ℕ
     views : List View
     holds : Holds t env ok code is fine v w inv keyless input u calls begun views
-    mode : Mode t g v w h (l.inside k) c cert (Facts c) (few c) u.pc calls views (d.counts k) (view_of w begun u.regs u.bytes)
+    mode : Mode t g v w most h (l.inside k) c cert (Facts c) (few c) (fewer c) (left env u) u.pc calls views (d.counts k) (view_of w begun u.regs u.bytes)
 
   -- the count after a step, by where it comes from
   count_is : (n : ℕ) (d f : Carried) (x : Stepped) → KeptStep env s (unasked l) n d f x → f.counts k ≡ count_step (unasked l) (source_of x.moved (run env s n).state.pc d.returns) (Some (step env (run env s n).state).state.pc) d.counts k
@@ -64,14 +65,17 @@ module _ (t : Text) (env : Setting) (ok : IsTextOf t env) (code : Code) (is : Is
       ∙ (ap (λ v. count_step (unasked l) (source_of x.moved v d.returns) (Some x.next) d.counts k) w.0
       ∙ ap (λ v. count_step (unasked l) (source_of x.moved (run env s n).state.pc d.returns) (Some v) d.counts k) (sym w.1))
 
+  at_most : (u : State) → left env u ≤ length env.input
+  at_most u = omega arith
+
   -- at the header a turn begins anew
-  anew : (u : State) (rs : List ℕ) (at : At t u rs) (calls : List ℕ) (begun : List ℕ) (xs : List View) → Holds t env ok code is fine v w inv keyless input u calls begun xs → u.pc ≡ h → Facts c h 0 (view_of w begun u.regs u.bytes)
+  anew : (u : State) (rs : List ℕ) (at : At t u rs) (calls : List ℕ) (begun : List ℕ) (xs : List View) → Holds t env ok code is fine v w inv keyless input u calls begun xs → u.pc ≡ h → Facts c (left env u) h 0 (view_of w begun u.regs u.bytes)
   anew u rs at calls begun xs holds e =
-      fresh t g v w h (l.inside k) c cert (view_of w begun u.regs u.bytes) at.over.zero at.over.size (subst (λ a. AreTold v w a (view_of w begun u.regs u.bytes)) e holds.told)
+      fresh t g v w most h (l.inside k) c cert env.input short (left env u) (view_of w begun u.regs u.bytes) at.over.zero at.over.size (subst (λ a. AreTold v w a (view_of w begun u.regs u.bytes)) e holds.told) (at_most u)
 
   -- ---- over an edge of an instruction that is no call
   module _ (u : State) (rs : List ℕ) (at : At t u rs) (x : Stepped) (went : (step env u).end ≡ Went x) (ons : IsOverText t (step env u).state) (begun : List ℕ) (xs : List View)
-      (now : Holds t env ok code is fine v w inv keyless input u at.calls begun xs) (count : ℕ) (facts : Facts c u.pc count (view_of w begun u.regs u.bytes)) (inside : c.body u.pc ≡ true) where
+      (now : Holds t env ok code is fine v w inv keyless input u at.calls begun xs) (count : ℕ) (facts : Facts c (left env u) u.pc count (view_of w begun u.regs u.bytes)) (inside : c.body u.pc ≡ true) where
     abbrev next : State
     next = (step env u).state
 
@@ -87,19 +91,33 @@ module _ (t : Text) (env : Setting) (ok : IsTextOf t env) (code : Code) (is : Is
     held_behind : (r : ℕ) → IsRegister r → IsHeld (passed i u.pc next.pc (v.at u.pc) r) (reg next.regs r)
     held_behind r q = passed_in env keyless u (v.at u.pc) at.over.zero at.over.size now.told.registers.each now.memory i r x fetch went q
 
+    held_to : (b : ℕ) → next.pc ≡ b → (r : ℕ) → IsRegister r → IsHeld (passed i u.pc b (v.at u.pc) r) (reg next.regs r)
+    held_to b same r q = subst (λ n. IsHeld (passed i u.pc n (v.at u.pc) r) (reg next.regs r)) same (held_behind r q)
+
     used_so : (b : ℕ) → next.pc ≡ b → IsUsed v c u.pc i b → 0 < facts.start
     used_so b same q = ⊎_elim (λ (on : c.used u.pc ≡ true). facts.used on)
         (λ (e : IsEvident v c u.pc i b).
-        evident env keyless v w inv.offsets u at.over.zero at.over.size begun now.told i fetch x went c count facts b same
-        (λ r q. subst (λ n. IsHeld (passed i u.pc n (v.at u.pc) r) (reg next.regs r)) same (held_behind r q)) e) q
+        evident env keyless v w inv.offsets u at.over.zero at.over.size begun now.told i fetch x went c count facts b same (held_to b same) e) q
 
-    own_over : (p : Place) (b : ℕ) → c.place ≡ p → IsOwnOver v w c u.pc i p (c.own b) → (j : ℕ) → c.place ≡ in_word j → IsRelated (c.own b) facts.start ((view_of w begun next.regs next.bytes).words j)
-    own_over (in_register r) b same over j e = let bad : in_register r ≡ in_word j = sym same ∙ e in let no : ⊥ = cc in absurd no
-    own_over (in_word q) b same over j e =
-        let f : in_word q ≡ in_word j = sym same ∙ e in
-        let f1 : q ≡ j = cc in
-        subst (λ n. IsRelated (c.own b) facts.start ((view_of w begun next.regs next.bytes).words n)) f1
-        (word_holds env keyless v w inv.offsets u at.over.zero at.over.size begun now.told i fetch x went c count facts q same (c.own b) over)
+    -- the word that is counted in, and what is left of the input
+    own_over : (p : Place) (b : ℕ) → next.pc ≡ b → c.place ≡ p → IsOwnOn v w c u.pc i b p (c.own b) →
+        ((j : ℕ) → c.place ≡ in_word j → IsRelated (left env next) (c.own b) facts.start ((view_of w begun next.regs next.bytes).words j)) ×
+        (c.place ≡ in_input → left env next + consumed_by (c.own b) ≤ facts.start)
+    own_over (in_register r) b to same over = (
+      λ j e. let bad : in_register r ≡ in_word j = sym same ∙ e in let no : ⊥ = cc in absurd no,
+      λ e. let bad : in_register r ≡ in_input = sym same ∙ e in let no : ⊥ = cc in absurd no,
+    )
+    own_over (in_word q) b to same over = (
+      λ j e. let f : in_word q ≡ in_word j = sym same ∙ e in
+          let f1 : q ≡ j = cc in
+          subst (λ n. IsRelated (left env next) (c.own b) facts.start ((view_of w begun next.regs next.bytes).words n)) f1
+          (word_holds env keyless v w inv.offsets u at.over.zero at.over.size begun now.told i fetch x went c count facts q same (c.own b) over),
+      λ e. let bad : in_word q ≡ in_input = sym same ∙ e in let no : ⊥ = cc in absurd no,
+    )
+    own_over in_input b to same over = (
+      λ j e. let bad : in_input ≡ in_word j = sym same ∙ e in let no : ⊥ = cc in absurd no,
+      λ e. taken_holds env keyless v w inv.offsets u at.over.zero at.over.size begun now.told i fetch x went c count facts b (held_to b to) same (consumed_by (c.own b)) over,
+    )
 
     possible_on : (b : ℕ) → next.pc ≡ b → IsPossible v u.pc i b
     possible_on b same h =
@@ -107,66 +125,92 @@ module _ (t : Text) (env : Setting) (ok : IsTextOf t env) (code : Code) (is : Is
         (so_behind env keyless u (v.at u.pc) at.over.zero at.over.size now.told.registers.each now.memory i x fetch went)
         (subst (λ n. IsImpossible (said i u.pc n) (v.at u.pc)) (sym same) h)
 
-    over_passed : Leads g u.pc next.pc → Steps g u.pc next.pc → (told : AreTold v w next.pc (view_of w begun next.regs next.bytes)) → Passed u.pc next.pc count (view_of w begun next.regs next.bytes)
+    over_passed : Leads g u.pc next.pc → Steps g u.pc next.pc → (told : AreTold v w next.pc (view_of w begun next.regs next.bytes)) → Passed (left env next) u.pc next.pc count (view_of w begun next.regs next.bytes)
     over_passed leads steps told = record {
-      anew = λ e. fresh t g v w h (l.inside k) c cert (view_of w begun next.regs next.bytes) ons.zero ons.size (subst (λ a. AreTold v w a (view_of w begun next.regs next.bytes)) e told);
+      anew = λ e. fresh t g v w most h (l.inside k) c cert env.input short (left env next) (view_of w begun next.regs next.bytes) ons.zero ons.size
+          (subst (λ a. AreTold v w a (view_of w begun next.regs next.bytes)) e told) (at_most next);
       turn = λ e _.
           let q = cert.turns u.pc i (subst (λ n. Steps g u.pc n) e steps) now.told.registers.live inside there.1 (possible_on h e) in
-          turned t g v w h (l.inside k) c cert q.0.0 count facts.start (view_of w begun next.regs next.bytes) ons.zero ons.size
+          turned t g v w most h (l.inside k) c cert env.input short q.0.0 (left env next) count facts.start (view_of w begun next.regs next.bytes) ons.zero ons.size
           (subst (λ a. AreTold v w a (view_of w begun next.regs next.bytes)) e told) facts.good
           (λ half. used_so h e (q.1 half))
-          (place_holds env keyless v w inv.offsets u at.over.zero at.over.size begun now.told i fetch x went c count facts c.place refl q.0.0 q.0.1) q.0.2;
+          (place_holds env keyless v w inv.offsets u at.over.zero at.over.size begun now.told i fetch x went c count facts h (held_to h e) c.place refl q.0.0 q.0.1) q.0.2;
       on = λ other _ on. record {
         start = facts.start;
         good = facts.good;
         rows = λ r q. row_on env keyless v w inv.offsets u at.over.zero at.over.size begun now.told i fetch x went c count facts r q now.memory next.pc refl (c.row next.pc r)
             (cert.along u.pc next.pc r i steps now.told.registers.live inside on other there.1 (possible_on next.pc refl) q);
-        own = own_over c.place next.pc refl (cert.along_own u.pc next.pc i steps now.told.registers.live inside on other there.1 (possible_on next.pc refl));
+        own = (owns on other steps).0;
+        left = (owns on other steps).1;
         used = λ q. used_so next.pc refl (cert.along_used u.pc next.pc i steps now.told.registers.live inside on other there.1 (possible_on next.pc refl) q);
       };
     }
+      where
+        owns : c.body next.pc ≡ true → next.pc ≢ h → Steps g u.pc next.pc →
+            ((j : ℕ) → c.place ≡ in_word j → IsRelated (left env next) (c.own next.pc) facts.start ((view_of w begun next.regs next.bytes).words j)) ×
+            (c.place ≡ in_input → left env next + consumed_by (c.own next.pc) ≤ facts.start)
+        owns on other steps = own_over c.place next.pc refl refl (cert.along_own u.pc next.pc i steps now.told.registers.live inside on other there.1 (possible_on next.pc refl))
 
   -- ---- behind a call
-  module _ (u : ℕ) (y : View) (next : State) (back : Returned t env ok code is fine v w inv keyless input u y next) (ons : IsOverText t next) (count : ℕ) (facts : Facts c u count y) (inside : c.body u ≡ true) where
+  module _ (u : ℕ) (y : View) (next : State) (back : Returned t env ok code is fine v w inv keyless input u y next) (ons : IsOverText t next) (count : ℕ) (facts : Facts c (left env next) u count y) (inside : c.body u ≡ true) where
     abbrev then : View
     then = view_of w y.begun next.regs next.bytes
 
-    row_back : (r : ℕ) → IsRegister r → (b : Relation) → IsRowBack t v w c u back.to r b → IsRelated b facts.start (reg next.regs r)
-    row_back r is b q = ⊎_elim (λ (n : IsWeaker b unknown). weaker_in b unknown facts.start (reg next.regs r) tt n)
+    left_back : (n : ℕ) → n ≤ consumed_by (c.own u) → c.place ≡ in_input → left env next + n ≤ facts.start
+    left_back n le same = let h = facts.left same in omega arith
+
+    row_back : (r : ℕ) → IsRegister r → (b : Relation) → IsRowBack t v w c u back.to r b → IsRelated (left env next) b facts.start (reg next.regs r)
+    row_back r is b q = ⊎_elim (λ (n : IsWeaker b unknown). weaker_in (left env next) b unknown facts.start (reg next.regs r) tt n)
         (λ (n : IsRestored t v w u back.to r × IsWeaker b (c.row u r)).
-        weaker_in b (c.row u r) facts.start (reg next.regs r) (same_in (c.row u r) facts.start (reg y.regs r) (reg next.regs r) (back.alike r is n.0).0 (facts.rows r is)) n.1) q
+        weaker_in (left env next) b (c.row u r) facts.start (reg next.regs r) (same_in (left env next) (c.row u r) facts.start (reg y.regs r) (reg next.regs r) (back.alike r is n.0).0 (facts.rows r is)) n.1) q
 
-    word_back : (j : ℕ) → c.place ≡ in_word j → (b : Relation) → (IsWeaker b unknown ⊎ (IsSafe v w u back.to j × IsWeaker b (c.own u))) → IsRelated b facts.start (then.words j)
-    word_back j same b q = ⊎_elim (λ (n : IsWeaker b unknown). weaker_in b unknown facts.start (then.words j) tt n)
+    word_back : (j : ℕ) → c.place ≡ in_word j → (b : Relation) → (IsWeaker b unknown ⊎ (IsSafe v w u back.to j × IsWeaker b (c.own u))) → IsRelated (left env next) b facts.start (then.words j)
+    word_back j same b q = ⊎_elim (λ (n : IsWeaker b unknown). weaker_in (left env next) b unknown facts.start (then.words j) tt n)
         (λ (n : IsSafe v w u back.to j × IsWeaker b (c.own u)).
-        weaker_in b (c.own u) facts.start (then.words j) (subst (λ m. IsRelated (c.own u) facts.start m) (sym (back.safe j n.0)) (facts.own j same)) n.1) q
+        weaker_in (left env next) b (c.own u) facts.start (then.words j) (subst (λ m. IsRelated (left env next) (c.own u) facts.start m) (sym (back.safe j n.0)) (facts.own j same)) n.1) q
 
-    place_back : (p : Place) → c.place ≡ p → (b : Relation) → IsPlaceBack t v w c u back.to p b → IsRelated b facts.start (stands_in p then)
+    place_back : (p : Place) → c.place ≡ p → (b : Relation) → IsPlaceBack t v w c u back.to p b → IsPlaceRelated p b (left env next) facts.start then
     place_back (in_register r) same b q = row_back r q.0 b q.1
     place_back (in_word j) same b q = word_back j same b q
+    place_back in_input same b q = (q.0, q.1, left_back q.0 q.2 same)
 
-    own_back : (p : Place) (b : ℕ) → c.place ≡ p → IsOwnBack v w c u back.to p (c.own b) → (j : ℕ) → c.place ≡ in_word j → IsRelated (c.own b) facts.start (then.words j)
-    own_back (in_register r) b same q j e = let bad : in_register r ≡ in_word j = sym same ∙ e in let no : ⊥ = cc in absurd no
-    own_back (in_word m) b same q j e =
-        let f : in_word m ≡ in_word j = sym same ∙ e in
-        let f1 : m ≡ j = cc in
-        subst (λ n. IsRelated (c.own b) facts.start (then.words n)) f1 (word_back m same (c.own b) q)
+    own_back : (p : Place) (b : ℕ) → c.place ≡ p → IsOwnBack v w c u back.to p (c.own b) →
+        ((j : ℕ) → c.place ≡ in_word j → IsRelated (left env next) (c.own b) facts.start (then.words j)) × (c.place ≡ in_input → left env next + consumed_by (c.own b) ≤ facts.start)
+    own_back (in_register r) b same q = (
+      λ j e. let bad : in_register r ≡ in_word j = sym same ∙ e in let no : ⊥ = cc in absurd no,
+      λ e. let bad : in_register r ≡ in_input = sym same ∙ e in let no : ⊥ = cc in absurd no,
+    )
+    own_back (in_word m) b same q = (
+      λ j e. let f : in_word m ≡ in_word j = sym same ∙ e in
+          let f1 : m ≡ j = cc in
+          subst (λ n. IsRelated (left env next) (c.own b) facts.start (then.words n)) f1 (word_back m same (c.own b) q),
+      λ e. let bad : in_word m ≡ in_input = sym same ∙ e in let no : ⊥ = cc in absurd no,
+    )
+    own_back in_input b same q = (
+      λ j e. let bad : in_input ≡ in_word j = sym same ∙ e in let no : ⊥ = cc in absurd no,
+      λ e. left_back (consumed_by (c.own b)) q e,
+    )
 
-    back_passed : Leads g u next.pc → (told : AreTold v w next.pc then) → Passed u next.pc count then
+    back_passed : Leads g u next.pc → (told : AreTold v w next.pc then) → Passed (left env next) u next.pc count then
     back_passed leads told = record {
-      anew = λ e. fresh t g v w h (l.inside k) c cert then ons.zero ons.size (subst (λ a. AreTold v w a then) e told);
+      anew = λ e. fresh t g v w most h (l.inside k) c cert env.input short (left env next) then ons.zero ons.size (subst (λ a. AreTold v w a then) e told) (at_most next);
       turn = λ e _.
           let q = cert.turns_back u back.to back.call (subst (λ n. Leads g u n) e leads) back.told.registers.live inside in
-          turned t g v w h (l.inside k) c cert q.0.0 count facts.start then ons.zero ons.size (subst (λ a. AreTold v w a then) e told) facts.good
+          turned t g v w most h (l.inside k) c cert env.input short q.0.0 (left env next) count facts.start then ons.zero ons.size (subst (λ a. AreTold v w a then) e told) facts.good
           (λ half. facts.used (q.1 half)) (place_back c.place refl q.0.0 q.0.1) q.0.2;
       on = λ other _ on. record {
         start = facts.start;
         good = facts.good;
         rows = λ r q. row_back r q (c.row next.pc r) (cert.back u back.to next.pc r back.call leads back.told.registers.live inside on other q);
-        own = own_back c.place next.pc refl (cert.back_own u back.to next.pc back.call leads back.told.registers.live inside on other);
+        own = (owns on other leads).0;
+        left = (owns on other leads).1;
         used = λ q. facts.used (cert.back_used u back.to next.pc back.call leads back.told.registers.live inside on other q);
       };
     }
+      where
+        owns : c.body next.pc ≡ true → next.pc ≢ h → Leads g u next.pc →
+            ((j : ℕ) → c.place ≡ in_word j → IsRelated (left env next) (c.own next.pc) facts.start (then.words j)) × (c.place ≡ in_input → left env next + consumed_by (c.own next.pc) ≤ facts.start)
+        owns on other leads = own_back c.place next.pc refl (cert.back_own u back.to next.pc back.call leads back.told.registers.live inside on other)
 
   goes : (n : ℕ) (d f : Carried) (x : Stepped) → KeptStep env s (unasked l) n d f x → (at : At t (run env s n).state d.returns) →
       (on : Onward t env ok code is fine (run env s n).state (step env (run env s n).state).state at.calls f.returns x.moved) →
@@ -179,31 +223,38 @@ module _ (t : Text) (env : Setting) (ok : IsTextOf t env) (code : Code) (is : Is
       next : State
       next = (step env u).state
 
+      there : (i : Instr) × (instr_at t u.pc ≡ Some i)
+      there = let q = kind_facts t u.pc (fine at.function u.pc at.reached) in (q.2.0, q.2.1)
+
+      -- no more of the input is left than before
+      falls : left env next ≤ left env u
+      falls = step_falls env u there.0 (fetched t env ok code is fine u d.returns at ∙ there.1)
+
       counted_as : (o : Option ℕ) → source_of x.moved u.pc d.returns ≡ o → f.counts k ≡ count_step (unasked l) o (Some next.pc) d.counts k
       counted_as o e = count_is n d f x kept ∙ ap (λ q. count_step (unasked l) q (Some next.pc) d.counts k) e
 
       stands : (calls : List ℕ) (count : ℕ) (begun : List ℕ) (xs : List View) → f.counts k ≡ count → on.at.calls ≡ calls → Holds t env ok code is fine v w inv keyless input next calls begun xs →
-          Mode t g v w h (l.inside k) c cert (Facts c) (few c) next.pc calls xs count (view_of w begun next.regs next.bytes) → Stands next on.at.calls f
+          Mode t g v w most h (l.inside k) c cert (Facts c) (few c) (fewer c) (left env next) next.pc calls xs count (view_of w begun next.regs next.bytes) → Stands next on.at.calls f
       stands calls count begun xs e q holds m = record {
         begun = begun;
         views = xs;
         holds = subst (λ y. Holds t env ok code is fine v w inv keyless input next y begun xs) (sym q) holds;
-        mode = subst (λ y. Mode t g v w h (l.inside k) c cert (Facts c) (few c) next.pc on.at.calls xs y (view_of w begun next.regs next.bytes)) (sym e)
-            (subst (λ y. Mode t g v w h (l.inside k) c cert (Facts c) (few c) next.pc y xs count (view_of w begun next.regs next.bytes)) (sym q) m);
+        mode = subst (λ y. Mode t g v w most h (l.inside k) c cert (Facts c) (few c) (fewer c) (left env next) next.pc on.at.calls xs y (view_of w begun next.regs next.bytes)) (sym e)
+            (subst (λ y. Mode t g v w most h (l.inside k) c cert (Facts c) (few c) (fewer c) (left env next) next.pc y xs count (view_of w begun next.regs next.bytes)) (sym q) m);
       }
 
       by_way : Way g u.pc next.pc at.calls on.at.calls x.moved → Stands next on.at.calls f
       by_way (over_edge leads steps after moved) =
           let then = over_holds t env ok code is fine v w inv keyless input u d.returns at x kept.went on.at.over now.begun now.views now.holds leads steps in
-          stands at.calls (after_edge t g v w h (l.inside k) c cert (Facts c) (few c) u.pc next.pc (d.counts k)) now.begun now.views (counted_as (Some u.pc) (ap (λ m. source_of m u.pc d.returns) moved)) after then
-          (along_edge t g v w h (l.inside k) c cert (Facts c) (few c) u.pc next.pc leads now.holds.told.registers.live at.calls now.views (d.counts k) (view_of w now.begun u.regs u.bytes) (view_of w now.begun next.regs next.bytes)
+          stands at.calls (after_edge t g v w most h (l.inside k) c cert (Facts c) (few c) (fewer c) u.pc next.pc (d.counts k)) now.begun now.views (counted_as (Some u.pc) (ap (λ m. source_of m u.pc d.returns) moved)) after then
+          (along_edge t g v w most h (l.inside k) c cert (Facts c) (few c) (fewer c) (left env u) (left env next) falls u.pc next.pc leads now.holds.told.registers.live at.calls now.views (d.counts k) (view_of w now.begun u.regs u.bytes) (view_of w now.begun next.regs next.bytes)
           (anew next f.returns on.at at.calls now.begun now.views then)
           (λ inside facts. over_passed u d.returns at x kept.went on.at.over now.begun now.views now.holds (d.counts k) facts inside leads steps then.told) now.mode)
       by_way (into_call call after moved) =
           let seen : View = view_of w now.begun u.regs u.bytes in
           let then = call_holds t env ok code is fine v w inv keyless input u d.returns at x kept.went on.at.over now.begun now.views now.holds moved call in
-          stands (u.pc ∷ at.calls) (after_call_to t g v w h (l.inside k) c cert (Facts c) (few c) next.pc (d.counts k)) next.regs (seen ∷ now.views) (counted_as None (ap (λ m. source_of m u.pc d.returns) moved)) after then
-          (along_call t g v w h (l.inside k) c cert (Facts c) (few c) u.pc next.pc call now.holds.told.registers.live at.calls now.views seen (d.counts k) (view_of w next.regs next.regs next.bytes) at.over.zero
+          stands (u.pc ∷ at.calls) (after_call_to t g v w most h (l.inside k) c cert (Facts c) (few c) (fewer c) next.pc (d.counts k)) next.regs (seen ∷ now.views) (counted_as None (ap (λ m. source_of m u.pc d.returns) moved)) after then
+          (along_call t g v w most h (l.inside k) c cert (Facts c) (few c) (fewer c) (left env u) (left env next) falls u.pc next.pc call now.holds.told.registers.live at.calls now.views seen (d.counts k) (view_of w next.regs next.regs next.bytes) at.over.zero
           (anew next f.returns on.at (u.pc ∷ at.calls) next.regs (seen ∷ now.views) then) now.mode)
       by_way (back_to z e to us before after lt from returns call leads moved) =
           let stack : IsStack (kind_at t) t.entry at.function (z ∷ us) = subst (λ y. IsStack (kind_at t) t.entry at.function y) before at.stack in
@@ -211,12 +262,12 @@ module _ (t : Text) (env : Setting) (ok : IsTextOf t env) (code : Code) (is : Is
           let source : source_of x.moved u.pc d.returns ≡ Some z =
           ap (λ m. source_of m u.pc d.returns) moved ∙ (ap (λ y. source_of Return u.pc y) (at.returns ∙ ap (map after_call) before) ∙ ap Some (site_back z z_small)) in
           let b = back_holds t env ok code is fine v w inv keyless input u d.returns at x kept.went on.at.over now.begun now.views now.holds z e us before lt from returns leads in
-          stands us (after_edge t g v w h (l.inside k) c cert (Facts c) (few c) z next.pc (d.counts k)) b.0.begun b.1 (counted_as (Some z) source) after b.3
-          (along_return t g v w h (l.inside k) c cert (Facts c) (few c) u.pc z next.pc b.4.to leads b.4.call b.4.told.registers.live us b.1 b.0 (d.counts k) (view_of w now.begun u.regs u.bytes) (view_of w b.0.begun next.regs next.bytes)
+          stands us (after_edge t g v w most h (l.inside k) c cert (Facts c) (few c) (fewer c) z next.pc (d.counts k)) b.0.begun b.1 (counted_as (Some z) source) after b.3
+          (along_return t g v w most h (l.inside k) c cert (Facts c) (few c) (fewer c) (left env u) (left env next) falls u.pc z next.pc b.4.to leads b.4.call b.4.told.registers.live us b.1 b.0 (d.counts k) (view_of w now.begun u.regs u.bytes) (view_of w b.0.begun next.regs next.bytes)
           (anew next f.returns on.at us b.0.begun b.1 b.3)
-          (λ zero_before inside facts. back_passed z b.0 next b.4 on.at.over (d.counts k) facts inside leads b.3.told)
-          (subst (λ y. Mode t g v w h (l.inside k) c cert (Facts c) (few c) u.pc (z ∷ us) y (d.counts k) (view_of w now.begun u.regs u.bytes)) b.2
-          (subst (λ y. Mode t g v w h (l.inside k) c cert (Facts c) (few c) u.pc y now.views (d.counts k) (view_of w now.begun u.regs u.bytes)) before now.mode)))
+          (λ zero_before inside facts. back_passed z b.0 next b.4 on.at.over (d.counts k) (fewer c (left env u) (left env next) z (d.counts k) b.0 falls facts) inside leads b.3.told)
+          (subst (λ y. Mode t g v w most h (l.inside k) c cert (Facts c) (few c) (fewer c) (left env u) u.pc (z ∷ us) y (d.counts k) (view_of w now.begun u.regs u.bytes)) b.2
+          (subst (λ y. Mode t g v w most h (l.inside k) c cert (Facts c) (few c) (fewer c) (left env u) u.pc y now.views (d.counts k) (view_of w now.begun u.regs u.bytes)) before now.mode)))
 
   begins : Stands s [] carried_first
   begins = record { begun = s.regs; views = []; holds = record { told = starts; frames = ap v.function at_entry; memory = bytes }; mode = at_level (go (c.body s.pc) refl) }
@@ -224,17 +275,17 @@ module _ (t : Text) (env : Setting) (ok : IsTextOf t env) (code : Code) (is : Is
       fresh_view : View
       fresh_view = view_of w s.regs s.regs s.bytes
 
-      go : (b : Bool) → c.body s.pc ≡ b → Level t g v w h (l.inside k) c cert (Facts c) (few c) s.pc [] 0 fresh_view
+      go : (b : Bool) → c.body s.pc ≡ b → Level t g v w most h (l.inside k) c cert (Facts c) (few c) (fewer c) (left env s) s.pc [] 0 fresh_view
       go false out = elsewhere out tt (no_turns c.least c.width)
       go true inside =
           let here : s.pc ≡ h = at_entry ∙ cert.entry (subst (λ y. c.body y ≡ true) at_entry inside) in
-          subst (λ y. Level t g v w h (l.inside k) c cert (Facts c) (few c) y [] 0 fresh_view) (sym here)
-          (within cert.first (fresh t g v w h (l.inside k) c cert fresh_view over.zero over.size (subst (λ a. AreTold v w a fresh_view) here starts)) tt)
+          subst (λ y. Level t g v w most h (l.inside k) c cert (Facts c) (few c) (fewer c) (left env s) y [] 0 fresh_view) (sym here)
+          (within cert.first (fresh t g v w most h (l.inside k) c cert env.input short (left env s) fresh_view over.zero over.size (subst (λ a. AreTold v w a fresh_view) here starts) (at_most s)) tt)
 
   pub counts_within : (n : ℕ) (d : Carried) → kept_at env s (unasked l) n ≡ Some d → d.counts k * c.least ≤ c.width
   counts_within n d kept = (along t env ok code is fine s over at_entry (unasked l) Stands (λ d. d.counts k * c.least ≤ c.width) begins
-      (λ u calls d m. turned_so t g v w h (l.inside k) c cert (Facts c) (few c) u.pc calls m.views (d.counts k) (view_of w m.begun u.regs u.bytes) m.mode) goes n d kept).0
+      (λ u calls d m. turned_so t g v w most h (l.inside k) c cert (Facts c) (few c) (fewer c) (left env u) u.pc calls m.views (d.counts k) (view_of w m.begun u.regs u.bytes) m.mode) goes n d kept).0
 
 pub turns_bound : TurnCertificatesBoundTurns
-turns_bound t env s code v w l k c start reached inv keyless starts bytes input cert n d kept =
-    counts_within t env start.text code reached.lists reached.words v w inv keyless input s start.state start.entry l k c cert starts bytes n d kept
+turns_bound t env s code v w most l k c start reached inv keyless starts bytes input short cert n d kept =
+    counts_within t env start.text code reached.lists reached.words v w inv keyless input s start.state start.entry most short l k c cert starts bytes n d kept

@@ -1,5 +1,5 @@
 -- What is so at an address of a loop's body by a certificate of turns, and what a turn makes of it.
-use Rattle.std.proofs.Common.{◌≡◌, ℕ, ◌+◌, ◌-◌, ◌*◌, ◌/◌, ◌<◌, ◌≤◌, ◌%◌, ◌^◌, ⊎_elim, Bool, true, false, length, refl, sym, ap, ◌∙◌, subst, arith, Option, Some}
+use Rattle.std.proofs.Common.{◌≡◌, ℕ, ◌+◌, ◌-◌, ◌*◌, ◌/◌, ◌<◌, ◌≤◌, ◌%◌, ◌^◌, ⊎_elim, Bool, true, false, List, length, refl, sym, ap, ◌∙◌, subst, arith, Option, Some, None}
 use Rattle.std.specs.Prelude.{nat_lt}
 use Rattle.std.proofs.lemmas.Bool.{both_ways, ltb-true, ltb-false}
 use Rattle.std.proofs.lemmas.Nat.{mul-mod_second, pow-add}
@@ -8,14 +8,14 @@ use Rattle.scale_base.specs.Arith.{plus}
 use Rattle.scale_base.specs.State.{reg}
 use Rattle.cost_theory.specs.Graph.{Graph}
 use Rattle.code_text.specs.Text.{Text}
-use Rattle.bound_laws.specs.Values.{Arc, arc, strided, scaled, sum_with, IsHeld, Covers, IsRegister, Values}
+use Rattle.bound_laws.specs.Values.{Arc, arc, strided, scaled, sum_with, IsHeld, held, Covers, IsRegister, Values}
 use Rattle.bound_laws.proofs.Laws.{in_covers, in_exactly, scaled_in, sum_with_in, held_of, measure_adds, one_turn, small_sum}
 use Rattle.stack_laws.specs.Stacks.{Stacks, View, AreTold}
-use Rattle.turn_laws.specs.Relating.{Relation, IsRelated, Place, stands_in, Kind, TurnCertificate, IsTurnCertificate, IsTurned, IsStarted, IsBegun, place_arc, is_halving}
-use Rattle.turn_laws.specs.Relating.Relation.{unknown, ahead_by, below, above}
-use Rattle.turn_laws.specs.Relating.Place.{in_register, in_word}
+use Rattle.turn_laws.specs.Relating.{Relation, IsRelated, Place, Kind, TurnCertificate, IsTurnCertificate, IsTurned, IsStarted, IsStartedIn, IsFilled, IsInputWithin, IsBegun, consumed_by, is_halving}
+use Rattle.turn_laws.specs.Relating.Relation.{unknown, ahead_by, below, above, read}
+use Rattle.turn_laws.specs.Relating.Place.{in_register, in_word, in_input}
 use Rattle.turn_laws.specs.Relating.Kind.{moves, lowers, raises, halves}
-use Rattle.turn_laws.proofs.Relations.{over, under_top, least_mod, divided_less}
+use Rattle.turn_laws.proofs.Relations.{over, under_top, least_mod, divided_less, fewer_in}
 
 abbrev pub rank : (factor shift s : ℕ) → ℕ
 rank factor shift s = (shift + factor * s) % 2 ^ 32
@@ -27,12 +27,24 @@ IsGood c lowers count s = count * c.least + s ≤ c.width
 IsGood c (raises from) count s = (from + count * c.least ≤ s) × (s ≤ from + c.width)
 IsGood c (halves bits) count s = (s * 2 ^ (count * c.least) < 2 ^ bits) × (count * c.least ≤ c.width)
 
-pub record Facts (c : TurnCertificate) (a count : ℕ) (x : View) : Type 0 where
+-- where so many bytes are left of the input
+pub record Facts (c : TurnCertificate) (rest a count : ℕ) (x : View) : Type 0 where
   pub start : ℕ
   pub good : IsGood c c.kind count start
-  pub rows : (r : ℕ) → IsRegister r → IsRelated (c.row a r) start (reg x.regs r)
-  pub own : (k : ℕ) → c.place ≡ in_word k → IsRelated (c.own a) start (x.words k)
+  pub rows : (r : ℕ) → IsRegister r → IsRelated rest (c.row a r) start (reg x.regs r)
+  pub own : (k : ℕ) → c.place ≡ in_word k → IsRelated rest (c.own a) start (x.words k)
+  pub left : c.place ≡ in_input → rest + consumed_by (c.own a) ≤ start
   pub used : c.used a ≡ true → 0 < start
+
+pub fewer : (c : TurnCertificate) (rest next a count : ℕ) (x : View) → next ≤ rest → Facts c rest a count x → Facts c next a count x
+fewer c rest next a count x le f = record {
+  start = f.start;
+  good = f.good;
+  rows = λ r is. fewer_in rest next (c.row a r) f.start (reg x.regs r) le (f.rows r is);
+  own = λ k same. fewer_in rest next (c.own a) f.start (x.words k) le (f.own k same);
+  left = λ same. let h = f.left same in omega arith;
+  used = f.used;
+}
 
 few_good : (c : TurnCertificate) (kind : Kind) (count s : ℕ) → IsGood c kind count s → count * c.least ≤ c.width
 few_good c (moves factor shift) count s g = let a = g.0 in let b = g.1 in omega arith
@@ -40,8 +52,8 @@ few_good c lowers count s g = omega arith
 few_good c (raises from) count s g = let a = g.0 in let b = g.1 in omega arith
 few_good c (halves bits) count s g = g.1
 
-pub few : (c : TurnCertificate) (a count : ℕ) (x : View) → Facts c a count x → count * c.least ≤ c.width
-few c a count x f = few_good c c.kind count f.start f.good
+pub few : (c : TurnCertificate) (rest a count : ℕ) (x : View) → Facts c rest a count x → count * c.least ≤ c.width
+few c rest a count x f = few_good c c.kind count f.start f.good
 
 -- ---- at the header
 
@@ -77,35 +89,63 @@ fresh_good c (halves bits) v i h s =
       let r : 0 * c.least ≤ c.width = omega arith in r,
     )
 
-begun_in : (p : Relation) (v : ℕ) → IsBegun p → IsRelated p (v % 2 ^ 32) v
-begun_in unknown v h = tt
-begun_in (ahead_by i) v h = (0, in_covers (Some (strided 0 0 0)) i 0 (in_exactly 0) h, let e : v % 2 ^ 32 ≡ (v % 2 ^ 32 + 0) % 2 ^ 32 = omega arith in e)
-begun_in (below l b) v h =
+begun_in : (rest : ℕ) (p : Relation) (v : ℕ) → IsBegun p → IsRelated rest p (v % 2 ^ 32) v
+begun_in rest unknown v h = tt
+begun_in rest (read l) v h = absurd h
+begun_in rest (ahead_by i) v h = (0, in_covers (Some (strided 0 0 0)) i 0 (in_exactly 0) h, let e : v % 2 ^ 32 ≡ (v % 2 ^ 32 + 0) % 2 ^ 32 = omega arith in e)
+begun_in rest (below l b) v h =
     subst (λ n. v % 2 ^ 32 + n ≤ v % 2 ^ 32 / 2 ^ b) (sym h.0) (subst (λ n. v % 2 ^ 32 + 0 ≤ v % 2 ^ 32 / 2 ^ n) (sym h.1) (let r : v % 2 ^ 32 + 0 ≤ v % 2 ^ 32 / 2 ^ 0 = omega arith in r))
-begun_in (above m) v h = let r : v % 2 ^ 32 + m ≤ v % 2 ^ 32 = omega arith in r
+begun_in rest (above m) v h = let r : v % 2 ^ 32 + m ≤ v % 2 ^ 32 = omega arith in r
 
-module _ (t : Text) (g : Graph) (v : Values) (w : Stacks) (h : ℕ) (extent : ℕ → Bool) (c : TurnCertificate) (cert : IsTurnCertificate t g v w h extent c) where
-  abbrev pub value : View → ℕ
-  value x = stands_in c.place x
+none_consumed : (p : Relation) → IsBegun p → consumed_by p ≡ 0
+none_consumed unknown h = refl
+none_consumed (ahead_by i) h = refl
+none_consumed (below l b) h = h.0
+none_consumed (above m) h = refl
+none_consumed (read l) h = refl
 
-  place_held : (p : Place) (x : View) → reg x.regs 0 ≡ 0 → length x.regs ≡ 32 → AreTold v w h x → IsHeld (place_arc v w h p) (stands_in p x)
-  place_held (in_register r) x zero_is size told = held_of (v.at h) x.regs zero_is size told.registers.each r
-  place_held (in_word k) x zero_is size told = told.words k
+-- what a relation is about, where so much is left of the input
+abbrev pub start_in : Place → View → ℕ → ℕ
+start_in (in_register r) x rest = reg x.regs r % 2 ^ 32
+start_in (in_word k) x rest = x.words k % 2 ^ 32
+start_in in_input x rest = rest
+
+-- what is so of the place at the end of a turn
+abbrev pub IsPlaceRelated : Place → Relation → (rest start : ℕ) → View → Type 0
+IsPlaceRelated (in_register r) p rest start x = IsRelated rest p start (reg x.regs r)
+IsPlaceRelated (in_word k) p rest start x = IsRelated rest p start (x.words k)
+IsPlaceRelated in_input p rest start x = (n : ℕ) × (p ≡ below n 0) × (rest + n ≤ start)
+
+module _ (t : Text) (g : Graph) (v : Values) (w : Stacks) (most : Option ℕ) (h : ℕ) (extent : ℕ → Bool) (c : TurnCertificate) (cert : IsTurnCertificate t g v w most h extent c)
+    (input : List ℕ) (short : IsInputWithin most input) where
+  abbrev start_at : ℕ → View → ℕ
+  start_at rest x = start_in c.place x rest
 
   -- with so many turns
-  pub begun : (count : ℕ) (x : View) → IsGood c c.kind count (value x % 2 ^ 32) → Facts c h count x
-  begun count x good = record {
-    start = value x % 2 ^ 32;
+  begun : (rest count : ℕ) (x : View) → IsGood c c.kind count (start_at rest x) → Facts c rest h count x
+  begun rest count x good = record {
+    start = start_at rest x;
     good = good;
-    rows = λ r is. ⊎_elim (λ (q : c.row h r ≡ unknown). subst (λ p. IsRelated p (value x % 2 ^ 32) (reg x.regs r)) (sym q) tt)
+    rows = λ r is. ⊎_elim (λ (q : c.row h r ≡ unknown). subst (λ p. IsRelated rest p (start_at rest x) (reg x.regs r)) (sym q) tt)
         (λ (q : (c.place ≡ in_register r) × IsBegun (c.row h r)).
-        subst (λ p. IsRelated (c.row h r) (stands_in p x % 2 ^ 32) (reg x.regs r)) (sym q.0) (begun_in (c.row h r) (reg x.regs r) q.1)) (cert.rows r is);
-    own = λ k same. subst (λ p. IsRelated (c.own h) (stands_in p x % 2 ^ 32) (x.words k)) (sym same) (begun_in (c.own h) (x.words k) cert.owns);
+        subst (λ p. IsRelated rest (c.row h r) (start_in p x rest) (reg x.regs r)) (sym q.0) (begun_in rest (c.row h r) (reg x.regs r) q.1)) (cert.rows r is);
+    own = λ k same. subst (λ p. IsRelated rest (c.own h) (start_in p x rest) (x.words k)) (sym same) (begun_in rest (c.own h) (x.words k) cert.owns);
+    left = λ same. subst (λ p. rest + consumed_by (c.own h) ≤ start_in p x rest) (sym same) (let z = none_consumed (c.own h) cert.owns in omega arith);
     used = λ on. absurd (both_ways (c.used h) cert.unused on);
   }
 
-  pub fresh : (x : View) → reg x.regs 0 ≡ 0 → length x.regs ≡ 32 → AreTold v w h x → Facts c h 0 x
-  fresh x zero_is size told = begun 0 x (fresh_good c c.kind (value x) (place_arc v w h c.place) (place_held c.place x zero_is size told) cert.started)
+  filled : (o : Option ℕ) (rest : ℕ) → IsInputWithin o input → IsFilled o c.width → rest ≤ length input → rest ≤ c.width
+  filled None rest within full le = absurd full
+  filled (Some n) rest within full le = omega arith
+
+  fresh_in : (p : Place) (rest : ℕ) (x : View) → reg x.regs 0 ≡ 0 → length x.regs ≡ 32 → AreTold v w h x → rest ≤ length input → IsStartedIn v w most c h p → IsGood c c.kind 0 (start_in p x rest)
+  fresh_in (in_register r) rest x zero_is size told le start = fresh_good c c.kind (reg x.regs r) (held (v.at h) r) (held_of (v.at h) x.regs zero_is size told.registers.each r) start
+  fresh_in (in_word k) rest x zero_is size told le start = fresh_good c c.kind (x.words k) (w.word h k) (told.words k) start
+  fresh_in in_input rest x zero_is size told le start =
+      subst (λ k. IsGood c k 0 rest) (sym start.0) (let q = filled most rest short start.1 le in let r : 0 * c.least + rest ≤ c.width = omega arith in r)
+
+  pub fresh : (rest : ℕ) (x : View) → reg x.regs 0 ≡ 0 → length x.regs ≡ 32 → AreTold v w h x → rest ≤ length input → Facts c rest h 0 x
+  fresh rest x zero_is size told le = begun rest 0 x (fresh_in c.place rest x zero_is size told le cert.started)
 
   -- ---- a turn
 
@@ -121,12 +161,13 @@ module _ (t : Text) (g : Graph) (v : Values) (w : Stacks) (h : ℕ) (extent : �
   ahead_ranked : (factor shift start d u : ℕ) → u % 2 ^ 32 ≡ (start + d) % 2 ^ 32 → rank factor shift (u % 2 ^ 32) ≡ (rank factor shift start + factor * d % 2 ^ 32) % 2 ^ 32
   ahead_ranked factor shift start d u e = ap (λ n. (shift + factor * n) % 2 ^ 32) e ∙ measure_adds (2 ^ 32) shift factor start d
 
-  turn_good : (kind : Kind) (p : Relation) (count start u : ℕ) (i : Option Arc) → IsGood c kind count start → (is_halving kind ≡ true → 0 < start) → IsRelated p start u → IsTurned c kind p → IsHeld i u → IsStarted c kind i →
+  turn_good : (kind : Kind) (p : Relation) (rest count start u : ℕ) (i : Option Arc) → IsGood c kind count start → (is_halving kind ≡ true → 0 < start) → IsRelated rest p start u → IsTurned c kind p → IsHeld i u → IsStarted c kind i →
       IsGood c kind (count + 1) (u % 2 ^ 32)
-  turn_good (moves factor shift) unknown count start u i good some is turn at s = absurd turn
-  turn_good (moves factor shift) (below l b) count start u i good some is turn at s = absurd turn
-  turn_good (moves factor shift) (above m) count start u i good some is turn at s = absurd turn
-  turn_good (moves factor shift) (ahead_by j) count start u i good some is turn at s =
+  turn_good (moves factor shift) unknown rest count start u i good some is turn at s = absurd turn
+  turn_good (moves factor shift) (below l b) rest count start u i good some is turn at s = absurd turn
+  turn_good (moves factor shift) (read l) rest count start u i good some is turn at s = absurd turn
+  turn_good (moves factor shift) (above m) rest count start u i good some is turn at s = absurd turn
+  turn_good (moves factor shift) (ahead_by j) rest count start u i good some is turn at s =
       let most : ℕ = turn.0 in
       let e : ℕ = factor * is.0 % 2 ^ 32 in
       let stays = turn.2 in
@@ -138,26 +179,29 @@ module _ (t : Text) (g : Graph) (v : Values) (w : Stacks) (h : ℕ) (extent : �
         one_turn count c.least (rank factor shift start) e (rank factor shift (u % 2 ^ 32)) good.0 ends.0 sum,
         rank_within c.width factor shift u i at s,
       )
-  turn_good lowers unknown count start u i good some is turn at s = absurd turn
-  turn_good lowers (ahead_by j) count start u i good some is turn at s = absurd turn
-  turn_good lowers (below l b) count start u i good some is turn at s =
+  turn_good lowers unknown rest count start u i good some is turn at s = absurd turn
+  turn_good lowers (ahead_by j) rest count start u i good some is turn at s = absurd turn
+  turn_good lowers (below l b) rest count start u i good some is turn at s =
       let d : (count + 1) * c.least ≡ count * c.least + 1 * c.least = add-mul count 1 c.least in
       let q = div-le_self start (2 ^ b) in
       let r : (count + 1) * c.least + u % 2 ^ 32 ≤ c.width = omega arith in r
-  turn_good lowers (above m) count start u i good some is turn at s = absurd turn
-  turn_good (raises from) unknown count start u i good some is turn at s = absurd turn
-  turn_good (raises from) (ahead_by j) count start u i good some is turn at s = absurd turn
-  turn_good (raises from) (below l b) count start u i good some is turn at s = absurd turn
-  turn_good (raises from) (above m) count start u i good some is turn at s =
+  turn_good lowers (read l) rest count start u i good some is turn at s = absurd turn
+  turn_good lowers (above m) rest count start u i good some is turn at s = absurd turn
+  turn_good (raises from) unknown rest count start u i good some is turn at s = absurd turn
+  turn_good (raises from) (ahead_by j) rest count start u i good some is turn at s = absurd turn
+  turn_good (raises from) (below l b) rest count start u i good some is turn at s = absurd turn
+  turn_good (raises from) (read l) rest count start u i good some is turn at s = absurd turn
+  turn_good (raises from) (above m) rest count start u i good some is turn at s =
       let d : (count + 1) * c.least ≡ count * c.least + 1 * c.least = add-mul count 1 c.least in
       let p = under_top i u at in let a = good.0 in let b = s.1 in (
         let r : from + (count + 1) * c.least ≤ u % 2 ^ 32 = omega arith in r,
         let r : u % 2 ^ 32 ≤ from + c.width = omega arith in r,
       )
-  turn_good (halves bits) unknown count start u i good some is turn at s = absurd turn
-  turn_good (halves bits) (ahead_by j) count start u i good some is turn at s = absurd turn
-  turn_good (halves bits) (above m) count start u i good some is turn at s = absurd turn
-  turn_good (halves bits) (below l b) count start u i good some is turn at s =
+  turn_good (halves bits) unknown rest count start u i good some is turn at s = absurd turn
+  turn_good (halves bits) (ahead_by j) rest count start u i good some is turn at s = absurd turn
+  turn_good (halves bits) (read l) rest count start u i good some is turn at s = absurd turn
+  turn_good (halves bits) (above m) rest count start u i good some is turn at s = absurd turn
+  turn_good (halves bits) (below l b) rest count start u i good some is turn at s =
       halved bits count start (u % 2 ^ 32) good.0 (some refl) (let q = divided_less start c.least b turn in omega arith) s.1
     where
       halved : (bits count start n : ℕ) → start * 2 ^ (count * c.least) < 2 ^ bits → 0 < start → n ≤ start / 2 ^ c.least → bits + c.least ≤ c.width + 1 → IsGood c (halves bits) (count + 1) n
@@ -186,7 +230,23 @@ module _ (t : Text) (g : Graph) (v : Values) (w : Stacks) (h : ℕ) (extent : �
                   let q : 2 ^ bits ≤ 2 ^ m = pow-le-pow_right (let z : 0 < 2 = omega arith in z) p in
                   let bad : ⊥ = omega arith in absurd bad
 
-  pub turned : (p : Relation) (count start : ℕ) (x : View) → reg x.regs 0 ≡ 0 → length x.regs ≡ 32 → AreTold v w h x → IsGood c c.kind count start → (is_halving c.kind ≡ true → 0 < start) →
-      IsRelated p start (value x) → IsTurned c c.kind p → Facts c h (count + 1) x
-  turned p count start x zero_is size told good some is turn =
-      begun (count + 1) x (turn_good c.kind p count start (value x) (place_arc v w h c.place) good some is turn (place_held c.place x zero_is size told) cert.started)
+  turn_lowers : (kind : Kind) (n rest count start : ℕ) → kind ≡ lowers → IsGood c kind count start → IsTurned c kind (below n 0) → rest + n ≤ start → IsGood c kind (count + 1) rest
+  turn_lowers (moves factor shift) n rest count start same good turn less = let bad : ⊥ = cc in absurd bad
+  turn_lowers (raises from) n rest count start same good turn less = let bad : ⊥ = cc in absurd bad
+  turn_lowers (halves bits) n rest count start same good turn less = let bad : ⊥ = cc in absurd bad
+  turn_lowers lowers n rest count start same good turn less =
+      let d : (count + 1) * c.least ≡ count * c.least + 1 * c.least = add-mul count 1 c.least in
+      let r : (count + 1) * c.least + rest ≤ c.width = omega arith in r
+
+  turned_in : (place : Place) (p : Relation) (rest count start : ℕ) (x : View) → reg x.regs 0 ≡ 0 → length x.regs ≡ 32 → AreTold v w h x → IsGood c c.kind count start → (is_halving c.kind ≡ true → 0 < start) →
+      IsPlaceRelated place p rest start x → IsTurned c c.kind p → IsStartedIn v w most c h place → IsGood c c.kind (count + 1) (start_in place x rest)
+  turned_in (in_register r) p rest count start x zero_is size told good some is turn begins =
+      turn_good c.kind p rest count start (reg x.regs r) (held (v.at h) r) good some is turn (held_of (v.at h) x.regs zero_is size told.registers.each r) begins
+  turned_in (in_word k) p rest count start x zero_is size told good some is turn begins = turn_good c.kind p rest count start (x.words k) (w.word h k) good some is turn (told.words k) begins
+  turned_in in_input p rest count start x zero_is size told good some is turn begins =
+      turn_lowers c.kind is.0 rest count start begins.0 good (subst (λ q. IsTurned c c.kind q) is.1 turn) is.2
+
+  pub turned : (p : Relation) (rest count start : ℕ) (x : View) → reg x.regs 0 ≡ 0 → length x.regs ≡ 32 → AreTold v w h x → IsGood c c.kind count start → (is_halving c.kind ≡ true → 0 < start) →
+      IsPlaceRelated c.place p rest start x → IsTurned c c.kind p → Facts c rest h (count + 1) x
+  turned p rest count start x zero_is size told good some is turn =
+      begun rest (count + 1) x (turned_in c.place p rest count start x zero_is size told good some is turn cert.started)

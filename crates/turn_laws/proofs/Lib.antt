@@ -1,4 +1,5 @@
 mod Relations
+mod Inputs
 mod Facts
 mod Turns
 mod Steps

@@ -1,5 +1,5 @@
 -- What instructions make of relations.
-use Rattle.std.proofs.Common.{◌≡◌, ℕ, ◌+◌, ◌-◌, ◌*◌, ◌/◌, ◌<◌, ◌≤◌, ◌%◌, ◌^◌, Bool, true, false, refl, sym, ap, ◌∙◌, subst, arith, Option, Some, None}
+use Rattle.std.proofs.Common.{◌≡◌, ℕ, ◌+◌, ◌-◌, ◌*◌, ◌/◌, ◌<◌, ◌≤◌, ◌%◌, ◌^◌, ◌⊎◌, inl, inr, ⊎_elim, Bool, true, false, refl, sym, ap, ◌∙◌, subst, arith, Option, Some, None}
 use Rattle.std.specs.Prelude.{pos, ◌==◌, ◌&&◌, not, int_lt, nat_lt, is_some, bit_and, if◌then◌else◌}
 use Rattle.std.specs.Int.{w32, int_shr}
 use Rattle.std.proofs.lemmas.Int.{to_z_pos}
@@ -11,8 +11,8 @@ use Rattle.scale_base.specs.declared.instruction.BranchOp.TheVariants.{Beq, Bne,
 use Rattle.scale_base.specs.Arith.{plus, signed, unsigned, is_taken}
 use Rattle.bound_laws.specs.Values.{Arc, IsHeld, difference_of, negated, sum_of, least_of, top_of}
 use Rattle.bound_laws.proofs.Laws.{in_covers, in_word, scaled_in, sum_in, sum_with_in, below_top}
-use Rattle.turn_laws.specs.Relating.{Relation, IsRelated, IsWeaker, moved_by_number, moved_by_arc, moved_back, multiplied, divided, lowered, is_low, greater, lesser, are_ordered, first_related, second_related}
-use Rattle.turn_laws.specs.Relating.Relation.{unknown, ahead_by, below, above}
+use Rattle.turn_laws.specs.Relating.{Relation, IsError, IsRelated, IsWeaker, moved_by_number, moved_by_arc, moved_back, multiplied, divided, lowered, is_low, is_one, greater, lesser, are_ordered, first_related, second_related}
+use Rattle.turn_laws.specs.Relating.Relation.{unknown, ahead_by, below, above, read}
 
 pub low_one : (a : ℕ) → a < 2 ^ 31 → signed a ≡ pos a
 low_one a h = to_z_pos w32 a h
@@ -60,6 +60,16 @@ held_low (Some j) b low y = let p = ltb-true (top_of (Some j)) (2 ^ 31) low in l
 pub held_more : (j : Option Arc) (n b : ℕ) → nat_lt n (least_of j) ≡ true → IsHeld j b → n < b
 held_more j n b low y = let p = ltb-true n (least_of j) low in let q = above_least j b y in omega arith
 
+pub one_held : (j : Option Arc) (n b : ℕ) → is_one j n ≡ true → IsHeld j b → b ≡ n
+one_held None n b one y = let bad : ⊥ = cc in absurd bad
+one_held (Some j) n b one y =
+    let p = and_parts (least_of (Some j) == n) (top_of (Some j) == n) one in
+    let low : least_of (Some j) ≡ n = eqb-true (least_of (Some j)) n p.0 in
+    let high : top_of (Some j) ≡ n = eqb-true (top_of (Some j)) n p.1 in
+    let above = above_least (Some j) b y in
+    let under = below_top j b y in
+    omega arith
+
 -- ---- weaker relations
 
 -- a greater divisor gives no greater a quotient
@@ -72,27 +82,44 @@ less_divided s n m some k =
 pub divided_less : (s shift further : ℕ) → shift ≤ further → s / 2 ^ further ≤ s / 2 ^ shift
 divided_less s shift further h = less_divided s (2 ^ shift) (2 ^ further) (pow_pos shift) (pow-le-pow_right (let e : 0 < 2 = omega arith in e) h)
 
-pub weaker_in : (p q : Relation) (s v : ℕ) → IsRelated q s v → IsWeaker p q → IsRelated p s v
-weaker_in unknown q s v h w = tt
-weaker_in (ahead_by i) (ahead_by j) s v h w = (h.0, in_covers j i h.0 h.1 w, h.2)
-weaker_in (ahead_by i) unknown s v h w = absurd w
-weaker_in (ahead_by i) (below l b) s v h w = absurd w
-weaker_in (ahead_by i) (above m) s v h w = absurd w
-weaker_in (below l b) (below m c) s v h w = let a = w.0 in let d = divided_less s b c w.1 in omega arith
-weaker_in (below l b) unknown s v h w = absurd w
-weaker_in (below l b) (ahead_by j) s v h w = absurd w
-weaker_in (below l b) (above m) s v h w = absurd w
-weaker_in (above m) (above n) s v h w = let r : s + m ≤ v % 2 ^ 32 = omega arith in r
-weaker_in (above m) unknown s v h w = absurd w
-weaker_in (above m) (ahead_by j) s v h w = absurd w
-weaker_in (above m) (below l b) s v h w = absurd w
+pub weaker_in : (rest : ℕ) (p q : Relation) (s v : ℕ) → IsRelated rest q s v → IsWeaker p q → IsRelated rest p s v
+weaker_in rest unknown q s v h w = tt
+weaker_in rest (ahead_by i) (ahead_by j) s v h w = (h.0, in_covers j i h.0 h.1 w, h.2)
+weaker_in rest (ahead_by i) unknown s v h w = absurd w
+weaker_in rest (ahead_by i) (below l b) s v h w = absurd w
+weaker_in rest (ahead_by i) (above m) s v h w = absurd w
+weaker_in rest (ahead_by i) (read m) s v h w = absurd w
+weaker_in rest (below l b) (below m c) s v h w = let a = w.0 in let d = divided_less s b c w.1 in omega arith
+weaker_in rest (below l b) unknown s v h w = absurd w
+weaker_in rest (below l b) (ahead_by j) s v h w = absurd w
+weaker_in rest (below l b) (above m) s v h w = absurd w
+weaker_in rest (below l b) (read m) s v h w = absurd w
+weaker_in rest (above m) (above n) s v h w = let r : s + m ≤ v % 2 ^ 32 = omega arith in r
+weaker_in rest (above m) unknown s v h w = absurd w
+weaker_in rest (above m) (ahead_by j) s v h w = absurd w
+weaker_in rest (above m) (below l b) s v h w = absurd w
+weaker_in rest (above m) (read l) s v h w = absurd w
+weaker_in rest (read m) (read n) s v h w = ⊎_elim (λ (q : rest + v % 2 ^ 32 + n ≤ s). inl (let r : rest + v % 2 ^ 32 + m ≤ s = omega arith in r)) (λ (q : IsError v). inr q) h
+weaker_in rest (read m) unknown s v h w = absurd w
+weaker_in rest (read m) (ahead_by j) s v h w = absurd w
+weaker_in rest (read m) (below l b) s v h w = absurd w
+weaker_in rest (read m) (above l) s v h w = absurd w
+
+-- where no more is left of the input than before
+pub fewer_in : (rest fewer : ℕ) (p : Relation) (s v : ℕ) → fewer ≤ rest → IsRelated rest p s v → IsRelated fewer p s v
+fewer_in rest fewer unknown s v le h = tt
+fewer_in rest fewer (ahead_by i) s v le h = h
+fewer_in rest fewer (below l b) s v le h = h
+fewer_in rest fewer (above m) s v le h = h
+fewer_in rest fewer (read l) s v le h = ⊎_elim (λ (q : rest + v % 2 ^ 32 + l ≤ s). inl (let r : fewer + v % 2 ^ 32 + l ≤ s = omega arith in r)) (λ (q : IsError v). inr q) h
 
 -- a value that is the same modulo 2^32
-pub same_in : (p : Relation) (s v u : ℕ) → u % 2 ^ 32 ≡ v % 2 ^ 32 → IsRelated p s v → IsRelated p s u
-same_in unknown s v u e h = tt
-same_in (ahead_by i) s v u e h = (h.0, h.1, e ∙ h.2)
-same_in (below l b) s v u e h = subst (λ n. n + l ≤ s / 2 ^ b) (sym e) h
-same_in (above m) s v u e h = subst (λ n. s + m ≤ n) (sym e) h
+pub same_in : (rest : ℕ) (p : Relation) (s v u : ℕ) → u % 2 ^ 32 ≡ v % 2 ^ 32 → IsRelated rest p s v → IsRelated rest p s u
+same_in rest unknown s v u e h = tt
+same_in rest (ahead_by i) s v u e h = (h.0, h.1, e ∙ h.2)
+same_in rest (below l b) s v u e h = subst (λ n. n + l ≤ s / 2 ^ b) (sym e) h
+same_in rest (above m) s v u e h = subst (λ n. s + m ≤ n) (sym e) h
+same_in rest (read l) s v u e h = subst (λ n. (rest + n + l ≤ s) ⊎ (2 ^ 31 ≤ n)) (sym e) h
 
 -- ---- sums
 
@@ -118,45 +145,48 @@ both_added v u l m s a b h = omega arith
 less_back : (v u k l x : ℕ) → v < 2 ^ 32 → u < 2 ^ 32 → u ≤ v → k ≤ u → v % 2 ^ 32 + l ≤ x → (v + (2 ^ 32 - u)) % 2 ^ 32 % 2 ^ 32 + (l + k) ≤ x
 less_back v u k l x a b c d h = omega arith
 
-pub number_in : (p : Relation) (i : Option Arc) (n s v : ℕ) → IsHeld i v → IsRelated p s v → IsRelated (moved_by_number p i n) s (plus v n)
-number_in unknown i n s v k h = tt
-number_in (ahead_by j) i n s v k h = (plus h.0 n, sum_with_in j n h.0 h.1, more_ahead s h.0 v n h.2)
-number_in (below l b) i n s v k h = cond_both (n == 0) (below l b) _ (λ p. IsRelated p s (plus v n))
-    (λ e. same_in (below l b) s v (plus v n) (nothing_added v n (ap (λ k. k % 2 ^ 32) (eqb-true n 0 e))) h)
-    (λ _. cond_both (nat_lt n (2 ^ 32) && nat_lt (2 ^ 32 - 1) (least_of i + n)) (below (l + (2 ^ 32 - n)) b) unknown (λ p. IsRelated p s (plus v n))
+pub number_in : (rest : ℕ) (p : Relation) (i : Option Arc) (n s v : ℕ) → IsHeld i v → IsRelated rest p s v → IsRelated rest (moved_by_number p i n) s (plus v n)
+number_in rest unknown i n s v k h = tt
+number_in rest (ahead_by j) i n s v k h = (plus h.0 n, sum_with_in j n h.0 h.1, more_ahead s h.0 v n h.2)
+number_in rest (below l b) i n s v k h = cond_both (n == 0) (below l b) _ (λ p. IsRelated rest p s (plus v n))
+    (λ e. same_in rest (below l b) s v (plus v n) (nothing_added v n (ap (λ k. k % 2 ^ 32) (eqb-true n 0 e))) h)
+    (λ _. cond_both (nat_lt n (2 ^ 32) && nat_lt (2 ^ 32 - 1) (least_of i + n)) (below (l + (2 ^ 32 - n)) b) unknown (λ p. IsRelated rest p s (plus v n))
     (λ e. let q = and_parts (nat_lt n (2 ^ 32)) (nat_lt (2 ^ 32 - 1) (least_of i + n)) e in
     let a : n < 2 ^ 32 = ltb-true n (2 ^ 32) q.0 in
     let c : 2 ^ 32 - 1 < least_of i + n = ltb-true (2 ^ 32 - 1) (least_of i + n) q.1 in
     let d = above_least i v k in
     let w : v < 2 ^ 32 = word_of i v (omega arith) k in
     less_taken v n l (s / 2 ^ b) w a (omega arith) h) (λ _. tt))
-number_in (above m) i n s v k h = cond_both (nat_lt (top_of i + n) (2 ^ 32)) (above (m + n)) _ (λ p. IsRelated p s (plus v n))
+number_in rest (above m) i n s v k h = cond_both (nat_lt (top_of i + n) (2 ^ 32)) (above (m + n)) _ (λ p. IsRelated rest p s (plus v n))
     (λ e. let a : top_of i + n < 2 ^ 32 = ltb-true (top_of i + n) (2 ^ 32) e in let t = under_top i v k in more_added v n m s (omega arith) h)
-    (λ _. cond_both (nat_lt n (2 ^ 32) && nat_lt (2 ^ 32 - 1) (m + n)) (above (m + n - 2 ^ 32)) unknown (λ p. IsRelated p s (plus v n))
+    (λ _. cond_both (nat_lt n (2 ^ 32) && nat_lt (2 ^ 32 - 1) (m + n)) (above (m + n - 2 ^ 32)) unknown (λ p. IsRelated rest p s (plus v n))
     (λ e. let q = and_parts (nat_lt n (2 ^ 32)) (nat_lt (2 ^ 32 - 1) (m + n)) e in
     let a : n < 2 ^ 32 = ltb-true n (2 ^ 32) q.0 in
     let c : 2 ^ 32 - 1 < m + n = ltb-true (2 ^ 32 - 1) (m + n) q.1 in
     more_taken v n m s a (omega arith) h) (λ _. tt))
+number_in rest (read l) i n s v k h = cond_both (n == 0) (read l) unknown (λ p. IsRelated rest p s (plus v n))
+    (λ e. same_in rest (read l) s v (plus v n) (nothing_added v n (ap (λ k. k % 2 ^ 32) (eqb-true n 0 e))) h) (λ _. tt)
 
-pub arc_in : (p : Relation) (i j : Option Arc) (s v u : ℕ) → IsHeld i v → IsHeld j u → IsRelated p s v → IsRelated (moved_by_arc p i j) s (plus v u)
-arc_in unknown i j s v u g k h = tt
-arc_in (ahead_by l) i j s v u g k h = (plus h.0 u, sum_in l j h.0 u h.1 k, more_ahead s h.0 v u h.2)
-arc_in (below l b) i j s v u g k h = cond_both (top_of j == 0) (below l b) unknown (λ p. IsRelated p s (plus v u))
+pub arc_in : (rest : ℕ) (p : Relation) (i j : Option Arc) (s v u : ℕ) → IsHeld i v → IsHeld j u → IsRelated rest p s v → IsRelated rest (moved_by_arc p i j) s (plus v u)
+arc_in rest unknown i j s v u g k h = tt
+arc_in rest (ahead_by l) i j s v u g k h = (plus h.0 u, sum_in l j h.0 u h.1 k, more_ahead s h.0 v u h.2)
+arc_in rest (below l b) i j s v u g k h = cond_both (top_of j == 0) (below l b) unknown (λ p. IsRelated rest p s (plus v u))
     (λ e. let z : top_of j ≡ 0 = eqb-true (top_of j) 0 e in let t = under_top j u k in
-    let none : u % 2 ^ 32 ≡ 0 = omega arith in same_in (below l b) s v (plus v u) (nothing_added v u none) h) (λ _. tt)
-arc_in (above m) i j s v u g k h = cond_both (nat_lt (top_of i + top_of j) (2 ^ 32)) (above (m + least_of j)) unknown (λ p. IsRelated p s (plus v u))
+    let none : u % 2 ^ 32 ≡ 0 = omega arith in same_in rest (below l b) s v (plus v u) (nothing_added v u none) h) (λ _. tt)
+arc_in rest (above m) i j s v u g k h = cond_both (nat_lt (top_of i + top_of j) (2 ^ 32)) (above (m + least_of j)) unknown (λ p. IsRelated rest p s (plus v u))
     (λ e. let a : top_of i + top_of j < 2 ^ 32 = ltb-true (top_of i + top_of j) (2 ^ 32) e in
     let x = under_top i v g in let y = under_top j u k in
     both_added v u (least_of j) m s (omega arith) (least_mod j u k) h) (λ _. tt)
+arc_in rest (read l) i j s v u g k h = tt
 
-pub sum_both_in : (p : Relation) (i j : Option Arc) (s v u : ℕ) → IsHeld i v → IsHeld j u → IsRelated p s v → IsRelated (moved_by_arc p i j) s (plus u v)
-sum_both_in p i j s v u g k h = subst (λ n. IsRelated (moved_by_arc p i j) s (n % 2 ^ 32)) (let e : v + u ≡ u + v = omega arith in e) (arc_in p i j s v u g k h)
+pub sum_both_in : (rest : ℕ) (p : Relation) (i j : Option Arc) (s v u : ℕ) → IsHeld i v → IsHeld j u → IsRelated rest p s v → IsRelated rest (moved_by_arc p i j) s (plus u v)
+sum_both_in rest p i j s v u g k h = subst (λ n. IsRelated rest (moved_by_arc p i j) s (n % 2 ^ 32)) (let e : v + u ≡ u + v = omega arith in e) (arc_in rest p i j s v u g k h)
 
-pub back_in : (p : Relation) (i j : Option Arc) (s v u : ℕ) → IsHeld i v → IsHeld j u → IsRelated p s v → IsRelated (moved_back p i j) s ((v + (2 ^ 32 - u)) % 2 ^ 32)
-back_in unknown i j s v u g k h = tt
-back_in (ahead_by l) i j s v u g k h = ((h.0 + (2 ^ 32 - u)) % 2 ^ 32, difference_in l j h.0 u h.1 k, more_ahead s h.0 v (2 ^ 32 - u) h.2)
-back_in (below l b) i j s v u g k h = cond_both ((is_some i && is_some j) && not (nat_lt (least_of i) (top_of j))) (below (l + least_of j) b) unknown
-    (λ p. IsRelated p s ((v + (2 ^ 32 - u)) % 2 ^ 32))
+pub back_in : (rest : ℕ) (p : Relation) (i j : Option Arc) (s v u : ℕ) → IsHeld i v → IsHeld j u → IsRelated rest p s v → IsRelated rest (moved_back p i j) s ((v + (2 ^ 32 - u)) % 2 ^ 32)
+back_in rest unknown i j s v u g k h = tt
+back_in rest (ahead_by l) i j s v u g k h = ((h.0 + (2 ^ 32 - u)) % 2 ^ 32, difference_in l j h.0 u h.1 k, more_ahead s h.0 v (2 ^ 32 - u) h.2)
+back_in rest (below l b) i j s v u g k h = cond_both ((is_some i && is_some j) && not (nat_lt (least_of i) (top_of j))) (below (l + least_of j) b) unknown
+    (λ p. IsRelated rest p s ((v + (2 ^ 32 - u)) % 2 ^ 32))
     (λ e. let q = and_parts (is_some i && is_some j) (not (nat_lt (least_of i) (top_of j))) e in
     let both = and_parts (is_some i) (is_some j) q.0 in
     let x : v < 2 ^ 32 = held_word i v both.0 g in
@@ -164,7 +194,8 @@ back_in (below l b) i j s v u g k h = cond_both ((is_some i && is_some j) && not
     let order : top_of j ≤ least_of i = ltb-false (least_of i) (top_of j) (not-true (nat_lt (least_of i) (top_of j)) q.1) in
     let t = under_top j u k in let m : u % 2 ^ 32 ≡ u = mod-eq_of_lt y in let f = above_least i v g in
     less_back v u (least_of j) l (s / 2 ^ b) x y (omega arith) (above_least j u k) h) (λ _. tt)
-back_in (above m) i j s v u g k h = tt
+back_in rest (above m) i j s v u g k h = tt
+back_in rest (read l) i j s v u g k h = tt
 
 -- ---- products
 
@@ -175,12 +206,13 @@ power_times v n =
     let one : 1 * v ≡ v = omega arith in
     mul_comm v (2 ^ n) ∙ (ap (λ x. x * v) e ∙ (add-mul (2 ^ n - 1) 1 v ∙ (ap (λ x. (2 ^ n - 1) * v + x) one ∙ ap (λ x. x + v) (mul_comm (2 ^ n - 1) v))))
 
-pub product_in : (p : Relation) (i : Option Arc) (n s v : ℕ) → IsHeld i v → IsRelated p s v → IsRelated (multiplied p i n) s (v * 2 ^ n % 2 ^ 32)
-product_in unknown i n s v k h = tt
-product_in (ahead_by j) i n s v k h = tt
-product_in (below l b) i n s v k h = tt
-product_in (above m) i n s v k h = cond_both (is_some i && nat_lt (top_of i * 2 ^ n) (2 ^ 32)) (above (m + least_of i * (2 ^ n - 1))) unknown
-    (λ p. IsRelated p s (v * 2 ^ n % 2 ^ 32))
+pub product_in : (rest : ℕ) (p : Relation) (i : Option Arc) (n s v : ℕ) → IsHeld i v → IsRelated rest p s v → IsRelated rest (multiplied p i n) s (v * 2 ^ n % 2 ^ 32)
+product_in rest unknown i n s v k h = tt
+product_in rest (ahead_by j) i n s v k h = tt
+product_in rest (below l b) i n s v k h = tt
+product_in rest (read l) i n s v k h = tt
+product_in rest (above m) i n s v k h = cond_both (is_some i && nat_lt (top_of i * 2 ^ n) (2 ^ 32)) (above (m + least_of i * (2 ^ n - 1))) unknown
+    (λ p. IsRelated rest p s (v * 2 ^ n % 2 ^ 32))
     (λ e. let q = and_parts (is_some i) (nat_lt (top_of i * 2 ^ n) (2 ^ 32)) e in
     let w : v < 2 ^ 32 = held_word i v q.0 k in
     let lt : top_of i * 2 ^ n < 2 ^ 32 = ltb-true (top_of i * 2 ^ n) (2 ^ 32) q.1 in
@@ -209,21 +241,23 @@ order_divided a b n some h =
     let q : a / n * n ≤ a = div-mul-le_self a n in
     le-div (a / n) b n some (omega arith)
 
-pub divided_in : (p : Relation) (n : ℕ) (word : Bool) (s v u : ℕ) → (word ≡ true → u % 2 ^ 32 ≤ v % 2 ^ 32 / 2 ^ n) → IsRelated p s v → IsRelated (divided p n word) s u
-divided_in unknown n word s v u h k = tt
-divided_in (ahead_by i) n word s v u h k = tt
-divided_in (above m) n word s v u h k = tt
-divided_in (below l b) n word s v u h k = cond_both word (below 0 (b + n)) unknown (λ p. IsRelated p s u)
+pub divided_in : (rest : ℕ) (p : Relation) (n : ℕ) (word : Bool) (s v u : ℕ) → (word ≡ true → u % 2 ^ 32 ≤ v % 2 ^ 32 / 2 ^ n) → IsRelated rest p s v → IsRelated rest (divided p n word) s u
+divided_in rest unknown n word s v u h k = tt
+divided_in rest (ahead_by i) n word s v u h k = tt
+divided_in rest (above m) n word s v u h k = tt
+divided_in rest (read l) n word s v u h k = tt
+divided_in rest (below l b) n word s v u h k = cond_both word (below 0 (b + n)) unknown (λ p. IsRelated rest p s u)
     (λ e. let a = h e in
     let c : v % 2 ^ 32 / 2 ^ n ≤ s / 2 ^ b / 2 ^ n = order_divided (v % 2 ^ 32) (s / 2 ^ b) (2 ^ n) (pow_pos n) (omega arith) in
     let d = twice_divided s b n in
     let r : u % 2 ^ 32 + 0 ≤ s / 2 ^ (b + n) = omega arith in r) (λ _. tt)
 
-pub lowered_in : (p : Relation) (n : ℕ) (word : Bool) (s v u : ℕ) → (word ≡ true → u % 2 ^ 32 + n ≤ v % 2 ^ 32) → IsRelated p s v → IsRelated (lowered p n word) s u
-lowered_in unknown n word s v u h k = tt
-lowered_in (ahead_by i) n word s v u h k = tt
-lowered_in (above m) n word s v u h k = tt
-lowered_in (below l b) n word s v u h k = cond_both word (below (l + n) b) unknown (λ p. IsRelated p s u)
+pub lowered_in : (rest : ℕ) (p : Relation) (n : ℕ) (word : Bool) (s v u : ℕ) → (word ≡ true → u % 2 ^ 32 + n ≤ v % 2 ^ 32) → IsRelated rest p s v → IsRelated rest (lowered p n word) s u
+lowered_in rest unknown n word s v u h k = tt
+lowered_in rest (ahead_by i) n word s v u h k = tt
+lowered_in rest (above m) n word s v u h k = tt
+lowered_in rest (read l) n word s v u h k = tt
+lowered_in rest (below l b) n word s v u h k = cond_both word (below (l + n) b) unknown (λ p. IsRelated rest p s u)
     (λ e. let a = h e in let r : u % 2 ^ 32 + (l + n) ≤ s / 2 ^ b = omega arith in r) (λ _. tt)
 
 -- ---- results
@@ -316,33 +350,35 @@ ordered_so Bge i j a b x y are h = not_less_signed a b (held_low j b (and_parts 
 ordered_so Bltu i j a b x y are h = ltb-true a b h
 ordered_so Bgeu i j a b x y are h = ltb-false a b (not-true (nat_lt a b) h)
 
-lesser_in : (q : Relation) (n s a b : ℕ) → a < 2 ^ 32 → b < 2 ^ 32 → a + n ≤ b → IsRelated q s b → IsRelated (lesser q n) s a
-lesser_in unknown n s a b x y le h = tt
-lesser_in (ahead_by i) n s a b x y le h = tt
-lesser_in (below l c) n s a b x y le h = go (s / 2 ^ c) h
+lesser_in : (rest : ℕ) (q : Relation) (n s a b : ℕ) → a < 2 ^ 32 → b < 2 ^ 32 → a + n ≤ b → IsRelated rest q s b → IsRelated rest (lesser q n) s a
+lesser_in rest unknown n s a b x y le h = tt
+lesser_in rest (ahead_by i) n s a b x y le h = tt
+lesser_in rest (below l c) n s a b x y le h = go (s / 2 ^ c) h
   where
     go : (z : ℕ) → b % 2 ^ 32 + l ≤ z → a % 2 ^ 32 + (l + n) ≤ z
     go z k = omega arith
-lesser_in (above m) n s a b x y le h = tt
+lesser_in rest (above m) n s a b x y le h = tt
+lesser_in rest (read l) n s a b x y le h = tt
 
-greater_in : (q : Relation) (n s a b : ℕ) → a < 2 ^ 32 → b < 2 ^ 32 → b + n ≤ a → IsRelated q s b → IsRelated (greater q n) s a
-greater_in unknown n s a b x y le h = tt
-greater_in (ahead_by i) n s a b x y le h = tt
-greater_in (below l c) n s a b x y le h = tt
-greater_in (above m) n s a b x y le h = let r : s + (m + n) ≤ a % 2 ^ 32 = omega arith in r
+greater_in : (rest : ℕ) (q : Relation) (n s a b : ℕ) → a < 2 ^ 32 → b < 2 ^ 32 → b + n ≤ a → IsRelated rest q s b → IsRelated rest (greater q n) s a
+greater_in rest unknown n s a b x y le h = tt
+greater_in rest (ahead_by i) n s a b x y le h = tt
+greater_in rest (below l c) n s a b x y le h = tt
+greater_in rest (read l) n s a b x y le h = tt
+greater_in rest (above m) n s a b x y le h = let r : s + (m + n) ≤ a % 2 ^ 32 = omega arith in r
 
-pub first_in : (op : BranchOp) (q : Relation) (s a b : ℕ) → a < 2 ^ 32 → b < 2 ^ 32 → IsOrdered op a b → IsRelated q s b → IsRelated (first_related op q) s a
-first_in Beq q s a b x y o h = subst (λ n. IsRelated q s n) (sym o) h
-first_in Bne q s a b x y o h = tt
-first_in Blt q s a b x y o h = lesser_in q 1 s a b x y (omega arith) h
-first_in Bge q s a b x y o h = greater_in q 0 s a b x y (omega arith) h
-first_in Bltu q s a b x y o h = lesser_in q 1 s a b x y (omega arith) h
-first_in Bgeu q s a b x y o h = greater_in q 0 s a b x y (omega arith) h
+pub first_in : (rest : ℕ) (op : BranchOp) (q : Relation) (s a b : ℕ) → a < 2 ^ 32 → b < 2 ^ 32 → IsOrdered op a b → IsRelated rest q s b → IsRelated rest (first_related op q) s a
+first_in rest Beq q s a b x y o h = subst (λ n. IsRelated rest q s n) (sym o) h
+first_in rest Bne q s a b x y o h = tt
+first_in rest Blt q s a b x y o h = lesser_in rest q 1 s a b x y (omega arith) h
+first_in rest Bge q s a b x y o h = greater_in rest q 0 s a b x y (omega arith) h
+first_in rest Bltu q s a b x y o h = lesser_in rest q 1 s a b x y (omega arith) h
+first_in rest Bgeu q s a b x y o h = greater_in rest q 0 s a b x y (omega arith) h
 
-pub second_in : (op : BranchOp) (q : Relation) (s a b : ℕ) → a < 2 ^ 32 → b < 2 ^ 32 → IsOrdered op a b → IsRelated q s a → IsRelated (second_related op q) s b
-second_in Beq q s a b x y o h = subst (λ n. IsRelated q s n) o h
-second_in Bne q s a b x y o h = tt
-second_in Blt q s a b x y o h = greater_in q 1 s b a y x (omega arith) h
-second_in Bge q s a b x y o h = lesser_in q 0 s b a y x (omega arith) h
-second_in Bltu q s a b x y o h = greater_in q 1 s b a y x (omega arith) h
-second_in Bgeu q s a b x y o h = lesser_in q 0 s b a y x (omega arith) h
+pub second_in : (rest : ℕ) (op : BranchOp) (q : Relation) (s a b : ℕ) → a < 2 ^ 32 → b < 2 ^ 32 → IsOrdered op a b → IsRelated rest q s a → IsRelated rest (second_related op q) s b
+second_in rest Beq q s a b x y o h = subst (λ n. IsRelated rest q s n) o h
+second_in rest Bne q s a b x y o h = tt
+second_in rest Blt q s a b x y o h = greater_in rest q 1 s b a y x (omega arith) h
+second_in rest Bge q s a b x y o h = lesser_in rest q 0 s b a y x (omega arith) h
+second_in rest Bltu q s a b x y o h = greater_in rest q 1 s b a y x (omega arith) h
+second_in rest Bgeu q s a b x y o h = lesser_in rest q 0 s b a y x (omega arith) h

@@ -1,5 +1,5 @@
 -- Scaffold: the laws of turns, as statements for the contracts of functions.
-use Rattle.std.specs.Prelude.{◌≡◌, ℕ, ◌*◌, ◌<◌, ◌≤◌, ◌⊎◌, All, List, length, Some, None, Ok}
+use Rattle.std.specs.Prelude.{◌≡◌, ℕ, ◌*◌, ◌<◌, ◌≤◌, ◌⊎◌, All, List, length, Option, Some, None, Ok}
 use Rattle.scale_base.specs.State.{Setting, State}
 use Rattle.scale_base.specs.Image.{Image, image_of}
 use Rattle.scale_base.specs.Run.{run_of}
@@ -16,38 +16,39 @@ use Rattle.bound_laws.specs.Values.{Values, AreBytes}
 use Rattle.stack_laws.specs.Stacks.{Stacks, view_of, IsStackInvariant, AreTold}
 use Rattle.stack_laws.specs.Returning.{ComesBack}
 use Rattle.stack_laws.specs.Laws.{IsStackAnalysed}
-use Rattle.turn_laws.specs.Relating.{TurnCertificate, IsTurnCertificate, IsShown}
+use Rattle.turn_laws.specs.Relating.{TurnCertificate, IsTurnCertificate, IsShown, IsInputWithin}
 
 -- As long as the returns of a run go back to their calls, a loop with a certificate turns no more often than its width allows.
 abbrev pub TurnCertificatesBoundTurns : Type 0
-TurnCertificatesBoundTurns = (t : Text) (env : Setting) (s : State) (code : Code) (v : Values) (w : Stacks) (l : Loops) (k : ℕ)
-    (c : TurnCertificate) → IsStartOver t env s → IsReachedCode t code → IsStackInvariant t (text_graph t code) v w →
+TurnCertificatesBoundTurns = (t : Text) (env : Setting) (s : State) (code : Code) (v : Values) (w : Stacks) (most : Option ℕ)
+    (l : Loops) (k : ℕ) (c : TurnCertificate) → IsStartOver t env s → IsReachedCode t code → IsStackInvariant t (text_graph t code) v w →
     env.layout.keyed ≡ None → AreTold v w s.pc (view_of w s.regs s.regs s.bytes) → AreBytes s.bytes → All (λ x. x < 256) env.input →
-    IsTurnCertificate t (text_graph t code) v w (l.header k) (l.inside k) c →
+    IsInputWithin most env.input → IsTurnCertificate t (text_graph t code) v w most (l.header k) (l.inside k) c →
     (n : ℕ) (d : Carried) → kept_at env s (unasked l) n ≡ Some d → d.counts k * c.least ≤ c.width
 
 -- A run of an image that is kept by some bounds is kept by these, where each loop's bound is shown by the code or is no less than the other.
 abbrev pub ShownBoundsAreKept : Type 0
-ShownBoundsAreKept = (file : List ℕ) (image : Image) (levels : ℕ) (input : List ℕ) (code : Code) (v : Values) (w : Stacks) (l : Loops)
-    (bounds : ℕ → ℕ) → image_of file ≡ Ok image →
-    All (λ x. x < 256) file → All (λ x. x < 256) input → IsStackAnalysed image code v w →
-    ((k : ℕ) → k < l.loops → IsShown (text_of image) (text_graph (text_of image) code) v w l k ⊎ (bounds k ≤ l.bound k)) →
+ShownBoundsAreKept = (file : List ℕ) (image : Image) (levels : ℕ) (input : List ℕ) (code : Code) (v : Values) (w : Stacks)
+    (most : Option ℕ) (l : Loops) (bounds : ℕ → ℕ) → image_of file ≡ Ok image →
+    All (λ x. x < 256) file → All (λ x. x < 256) input → IsInputWithin most input → IsStackAnalysed image code v w →
+    ((k : ℕ) → k < l.loops → IsShown (text_of image) (text_graph (text_of image) code) v w most l k ⊎ (bounds k ≤ l.bound k)) →
     (n : ℕ) → IsKeptUpTo image levels input (with_bounds l bounds) n → IsKeptUpTo image levels input l n
 
 -- Where all bounds are shown, and no loop has to turn, a run is kept if its returns go back to their calls and its calls are not too deep.
 abbrev pub ShownBoundsAreKeptByReturns : Type 0
 ShownBoundsAreKeptByReturns = (file : List ℕ) (image : Image) (levels : ℕ) (input : List ℕ) (code : Code) (v : Values) (w : Stacks)
-    (l : Loops) → image_of file ≡ Ok image →
-    All (λ x. x < 256) file → All (λ x. x < 256) input → IsStackAnalysed image code v w →
-    ((k : ℕ) → k < l.loops → IsShown (text_of image) (text_graph (text_of image) code) v w l k × (l.least_trips k ≡ 0)) →
+    (most : Option ℕ) (l : Loops) → image_of file ≡ Ok image →
+    All (λ x. x < 256) file → All (λ x. x < 256) input → IsInputWithin most input → IsStackAnalysed image code v w →
+    ((k : ℕ) → k < l.loops → IsShown (text_of image) (text_graph (text_of image) code) v w most l k × (l.least_trips k ≡ 0)) →
     (n : ℕ) → ((m : ℕ) → m ≤ n → (rs : List ℕ) × (returns_so (run_of image levels input m).steps ≡ Some rs) × (length rs ≤ most_returns)) →
     IsKeptUpTo image levels input l n
 
 -- Where all bounds are shown, no loop has to turn and the code says so of returns, every run of the image is kept, on each input.
 abbrev pub RunsAreKept : Type 0
-RunsAreKept = (file : List ℕ) (image : Image) (levels : ℕ) (input : List ℕ) (code : Code) (v : Values) (w : Stacks) (l : Loops) →
+RunsAreKept = (file : List ℕ) (image : Image) (levels : ℕ) (input : List ℕ) (code : Code) (v : Values) (w : Stacks)
+    (most : Option ℕ) (l : Loops) →
     image_of file ≡ Ok image →
-    All (λ x. x < 256) file → All (λ x. x < 256) input → IsStackAnalysed image code v w →
+    All (λ x. x < 256) file → All (λ x. x < 256) input → IsInputWithin most input → IsStackAnalysed image code v w →
     ComesBack (text_of image) (text_graph (text_of image) code) v w →
-    ((k : ℕ) → k < l.loops → IsShown (text_of image) (text_graph (text_of image) code) v w l k × (l.least_trips k ≡ 0)) → (n : ℕ) →
+    ((k : ℕ) → k < l.loops → IsShown (text_of image) (text_graph (text_of image) code) v w most l k × (l.least_trips k ≡ 0)) → (n : ℕ) →
     IsKeptUpTo image levels input l n

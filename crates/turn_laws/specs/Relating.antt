@@ -1,13 +1,13 @@
--- How often a loop turns, by what each turn makes of a register or a word of the stack: relations of values to the one number that stood
--- there when the header was last come to, which the code has to confirm edge by edge. Ranking functions: Floyd, Assigning meanings to
--- programs, 1967.
-use Rattle.std.specs.Prelude.{◌≡◌, ◌≢◌, ℕ, ◌+◌, ◌-◌, ◌*◌, ◌/◌, ◌%◌, ◌^◌, ◌<◌, ◌≤◌, ◌⊎◌, ◌==◌, ◌&&◌, not, nat_lt, Bool, true, false, Option, Some, None, is_some, if◌then◌else◌}
+-- How often a loop turns, by what each turn makes of a register, of a word of the stack, or of what is left of the input: relations of values
+-- to the one number that stood there when the header was last come to, which the code has to confirm edge by edge. Ranking functions: Floyd,
+-- Assigning meanings to programs, 1967.
+use Rattle.std.specs.Prelude.{◌≡◌, ◌≢◌, ℕ, ◌+◌, ◌-◌, ◌*◌, ◌/◌, ◌%◌, ◌^◌, ◌<◌, ◌≤◌, ◌⊎◌, ◌==◌, ◌&&◌, not, nat_lt, Bool, true, false, Option, Some, None, is_some, List, length, if◌then◌else◌}
 use Rattle.scale_base.specs.declared.instruction.BranchOp.{BranchOp}
 use Rattle.scale_base.specs.declared.instruction.BranchOp.TheVariants.{Beq, Bne, Blt, Bge, Bltu, Bgeu}
 use Rattle.scale_base.specs.declared.instruction.ImmOp.TheVariants.{Addi, Andi, Slli, Srli, Srai}
 use Rattle.scale_base.specs.declared.instruction.RegOp.TheVariants.{Add, Sub, And, Mulhu, Divu, Remu}
 use Rattle.scale_base.specs.declared.instruction.Instr.{Instr}
-use Rattle.scale_base.specs.declared.instruction.Instr.TheVariants.{Imm, Reg}
+use Rattle.scale_base.specs.declared.instruction.Instr.TheVariants.{Imm, Reg, Ecall}
 use Rattle.scale_base.specs.Arith.{unsigned}
 use Rattle.scale_base.specs.State.{reg}
 use Rattle.cost_theory.specs.Graph.{Graph, Loops}
@@ -21,19 +21,27 @@ use Rattle.stack_laws.specs.Stacks.{Stacks, View, IsLoadedTo, IsStoredFrom, IsMi
 -- ---- relations
 
 -- What is known of a value by the number that stood in the counted place when the header was last come to: nothing; that it is more by a
--- number of an interval, modulo 2^32; that it, and so much more, is at most that number divided by a power of 2; or that it is at least that
--- number and so much more.
+-- number of an interval, modulo 2^32; that it, and so much more, is at most that number divided by a power of 2; that it is at least that
+-- number and so much more; or that it is what a read answered since, an error number, or a count of bytes which, with what is left of the
+-- input and so much more, is at most that number.
 pub data Relation : Type 0 where
   unknown : Relation
   ahead_by : Option Arc → Relation
   below : (less shift : ℕ) → Relation
   above : (more : ℕ) → Relation
+  read : (less : ℕ) → Relation
 
-abbrev pub IsRelated : Relation → (start value : ℕ) → Type 0
-IsRelated unknown start value = Unit {0}
-IsRelated (ahead_by i) start value = (d : ℕ) × IsHeld i d × (value % 2 ^ 32 ≡ (start + d) % 2 ^ 32)
-IsRelated (below less shift) start value = value % 2 ^ 32 + less ≤ start / 2 ^ shift
-IsRelated (above more) start value = start + more ≤ value % 2 ^ 32
+-- error numbers of services are of the upper half of the words
+abbrev pub IsError : ℕ → Type 0
+IsError value = 2 ^ 31 ≤ value % 2 ^ 32
+
+-- where so many bytes are left of the input
+abbrev pub IsRelated : (rest : ℕ) → Relation → (start value : ℕ) → Type 0
+IsRelated rest unknown start value = Unit {0}
+IsRelated rest (ahead_by i) start value = (d : ℕ) × IsHeld i d × (value % 2 ^ 32 ≡ (start + d) % 2 ^ 32)
+IsRelated rest (below less shift) start value = value % 2 ^ 32 + less ≤ start / 2 ^ shift
+IsRelated rest (above more) start value = start + more ≤ value % 2 ^ 32
+IsRelated rest (read less) start value = (rest + value % 2 ^ 32 + less ≤ start) ⊎ IsError value
 
 -- this one says no more than the other
 abbrev pub IsWeaker : Relation → Relation → Type 0
@@ -42,14 +50,22 @@ IsWeaker (ahead_by i) (ahead_by j) = Covers i j
 IsWeaker (ahead_by i) unknown = ⊥
 IsWeaker (ahead_by i) (below less shift) = ⊥
 IsWeaker (ahead_by i) (above more) = ⊥
+IsWeaker (ahead_by i) (read less) = ⊥
 IsWeaker (below less shift) (below more further) = (less ≤ more) × (shift ≤ further)
 IsWeaker (below less shift) unknown = ⊥
 IsWeaker (below less shift) (ahead_by j) = ⊥
 IsWeaker (below less shift) (above more) = ⊥
+IsWeaker (below less shift) (read more) = ⊥
 IsWeaker (above more) (above most) = more ≤ most
 IsWeaker (above more) unknown = ⊥
 IsWeaker (above more) (ahead_by j) = ⊥
 IsWeaker (above more) (below less shift) = ⊥
+IsWeaker (above more) (read less) = ⊥
+IsWeaker (read less) (read more) = less ≤ more
+IsWeaker (read less) unknown = ⊥
+IsWeaker (read less) (ahead_by j) = ⊥
+IsWeaker (read less) (below more shift) = ⊥
+IsWeaker (read less) (above more) = ⊥
 
 -- ---- what instructions make of them
 
@@ -66,6 +82,7 @@ moved_by_number (above more) i n =
     if nat_lt (top_of i + n) (2 ^ 32) then above (more + n)
     else if nat_lt n (2 ^ 32) && nat_lt (2 ^ 32 - 1) (more + n) then above (more + n - 2 ^ 32)
     else unknown
+moved_by_number (read less) i n = if n == 0 then read less else unknown
 
 -- a sum with a value of an interval
 abbrev pub moved_by_arc : Relation → (i j : Option Arc) → Relation
@@ -73,6 +90,7 @@ moved_by_arc unknown i j = unknown
 moved_by_arc (ahead_by k) i j = ahead_by (sum_of k j)
 moved_by_arc (below less shift) i j = if top_of j == 0 then below less shift else unknown
 moved_by_arc (above more) i j = if nat_lt (top_of i + top_of j) (2 ^ 32) then above (more + least_of j) else unknown
+moved_by_arc (read less) i j = unknown
 
 -- a difference
 abbrev pub moved_back : Relation → (i j : Option Arc) → Relation
@@ -81,6 +99,7 @@ moved_back (ahead_by k) i j = ahead_by (difference_of k j)
 moved_back (below less shift) i j =
     if (is_some i && is_some j) && not (nat_lt (least_of i) (top_of j)) then below (less + least_of j) shift else unknown
 moved_back (above more) i j = unknown
+moved_back (read less) i j = unknown
 
 -- a product with a power of 2
 abbrev pub multiplied : Relation → Option Arc → ℕ → Relation
@@ -89,6 +108,7 @@ multiplied (ahead_by k) i n = unknown
 multiplied (below less shift) i n = unknown
 multiplied (above more) i n =
     if is_some i && nat_lt (top_of i * 2 ^ n) (2 ^ 32) then above (more + least_of i * (2 ^ n - 1)) else unknown
+multiplied (read less) i n = unknown
 
 -- a word divided by a power of 2, or by a number that is that at least
 abbrev pub divided : Relation → ℕ → Bool → Relation
@@ -96,6 +116,7 @@ divided unknown n word = unknown
 divided (ahead_by i) n word = unknown
 divided (below less shift) n word = if word then below 0 (shift + n) else unknown
 divided (above more) n word = unknown
+divided (read less) n word = unknown
 
 -- what is at most a word, and is less than that by so much
 abbrev pub lowered : Relation → ℕ → Bool → Relation
@@ -103,6 +124,7 @@ lowered unknown n word = unknown
 lowered (ahead_by i) n word = unknown
 lowered (below less shift) n word = if word then below (less + n) shift else unknown
 lowered (above more) n word = unknown
+lowered (read less) n word = unknown
 
 -- the interval has words below 2^31 alone, which are no negative numbers
 abbrev pub is_low : Option Arc → Bool
@@ -139,6 +161,7 @@ greater unknown n = unknown
 greater (ahead_by i) n = unknown
 greater (below less shift) n = unknown
 greater (above more) n = above (more + n)
+greater (read less) n = unknown
 
 -- and of one that is less
 abbrev pub lesser : Relation → ℕ → Relation
@@ -146,6 +169,7 @@ lesser unknown n = unknown
 lesser (ahead_by i) n = unknown
 lesser (below less shift) n = below (less + n) shift
 lesser (above more) n = unknown
+lesser (read less) n = unknown
 
 -- The numbers compare as words: both are words, and where they compare as signed numbers, the one that is less is none below 0.
 abbrev pub are_ordered : BranchOp → (i j : Option Arc) → Bool
@@ -173,14 +197,11 @@ second_related Bgeu q = lesser q 0
 
 -- ---- certificates
 
--- what is counted in: a register, or a word of the stack, by its number
+-- what is counted in: a register, a word of the stack, by its number, or the bytes that are left of the input
 pub data Place : Type 0 where
   in_register : ℕ → Place
   in_word : ℕ → Place
-
-abbrev pub stands_in : Place → View → ℕ
-stands_in (in_register r) x = reg x.regs r
-stands_in (in_word k) x = x.words k
+  in_input : Place
 
 -- How turns are counted: each one moves a sum of a multiple of the number and of a shift on, takes something away from the number, halves
 -- it so many times, or adds something to it, from a number on.
@@ -198,7 +219,7 @@ pub record TurnCertificate : Type 0 where
   pub least : ℕ
   -- the code of the loop, with its header
   pub body : ℕ → Bool
-  -- by address and register, and of a word that is counted in by address
+  -- by address and register, and by address of a word that is counted in, or of what is left of the input
   pub row : ℕ → ℕ → Relation
   pub own : ℕ → Relation
   -- by address: the number at the header was not 0
@@ -218,10 +239,31 @@ IsMadeOver v c a i r b = (keeps r i ≡ false) × (IsWeaker b (made i (row_of c 
 abbrev pub IsLoadedOwn : Stacks → TurnCertificate → ℕ → Instr → ℕ → Relation → Type 0
 IsLoadedOwn w c a i r b = (k : ℕ) × (c.place ≡ in_word k) × IsLoadedTo w a i k r × IsWeaker b (c.own a)
 
+-- so much at least was taken from the input since the header was last come to, by what is left of it
+abbrev pub consumed_by : Relation → ℕ
+consumed_by unknown = 0
+consumed_by (ahead_by i) = 0
+consumed_by (below less shift) = less
+consumed_by (above more) = 0
+consumed_by (read less) = 0
+
+abbrev pub read_number : ℕ
+read_number = 63
+
+-- the interval has one word alone
+abbrev pub is_one : Option Arc → ℕ → Bool
+is_one None n = false
+is_one (Some i) n = (least_of (Some i) == n) && (top_of (Some i) == n)
+
+-- the answer of a read, where the input is counted in
+abbrev pub IsReadInto : Values → TurnCertificate → ℕ → Instr → ℕ → Relation → Type 0
+IsReadInto v c a i r b = (c.place ≡ in_input) × (i ≡ Ecall) × (r ≡ 10) × (is_one (held (v.at a) 17) read_number ≡ true) ×
+    IsWeaker b (read (consumed_by (c.own a)))
+
 -- a register's relation behind the instruction at a
 abbrev pub IsRowOver : Values → Stacks → TurnCertificate → ℕ → Instr → ℕ → Relation → Type 0
 IsRowOver v w c a i r b = ((keeps r i ≡ true) × IsWeaker b (c.row a r)) ⊎ IsMadeOver v c a i r b ⊎ IsLoadedOwn w c a i r b ⊎
-    IsWeaker b unknown
+    IsReadInto v c a i r b ⊎ IsWeaker b unknown
 
 -- on the way to b: or by what a branch says of it
 abbrev pub IsRelatedBy : Values → TurnCertificate → ℕ → Instr → (b r : ℕ) → Relation → Type 0
@@ -241,9 +283,20 @@ IsPossible v a i b = IsImpossible (said i a b) (v.at a) → ⊥
 abbrev pub IsWordOver : Values → Stacks → TurnCertificate → ℕ → Instr → ℕ → Relation → Type 0
 IsWordOver v w c a i k b = (IsMissed v w a i k × IsWeaker b (c.own a)) ⊎ ((r : ℕ) × IsStoredFrom w a i k r × IsWeaker b (row_of c a r))
 
-abbrev pub IsOwnOver : Values → Stacks → TurnCertificate → ℕ → Instr → Place → Relation → Type 0
-IsOwnOver v w c a i (in_register r) b = Unit {0}
-IsOwnOver v w c a i (in_word k) b = IsWordOver v w c a i k b
+-- A register that the instruction leaves is on the way to b what a read answered, and is no error number.
+abbrev pub IsCounted : Values → TurnCertificate → ℕ → Instr → (b n : ℕ) → Type 0
+IsCounted v c a i b n = (r : ℕ) × (less : ℕ) × IsRegister r × (keeps r i ≡ true) × (c.row a r ≡ read less) ×
+    (top_of (passed i a b (v.at a) r) < 2 ^ 31) × (n ≤ less + least_of (passed i a b (v.at a) r))
+
+-- so much at least was taken from the input on the way to b
+abbrev pub IsTakenOn : Values → TurnCertificate → ℕ → Instr → (b n : ℕ) → Type 0
+IsTakenOn v c a i b n = (n ≤ consumed_by (c.own a)) ⊎ IsCounted v c a i b n
+
+-- on the way to b, what the place is related by that isn't a register
+abbrev pub IsOwnOn : Values → Stacks → TurnCertificate → ℕ → Instr → ℕ → Place → Relation → Type 0
+IsOwnOn v w c a i b (in_register r) q = Unit {0}
+IsOwnOn v w c a i b (in_word k) q = IsWordOver v w c a i k q
+IsOwnOn v w c a i b in_input q = IsTakenOn v c a i b (consumed_by q)
 
 -- and behind a call at a
 abbrev pub IsRowBack : Text → Values → Stacks → TurnCertificate → (a to r : ℕ) → Relation → Type 0
@@ -252,20 +305,23 @@ IsRowBack t v w c a to r b = IsWeaker b unknown ⊎ (IsRestored t v w a to r × 
 abbrev pub IsOwnBack : Values → Stacks → TurnCertificate → (a to : ℕ) → Place → Relation → Type 0
 IsOwnBack v w c a to (in_register r) b = Unit {0}
 IsOwnBack v w c a to (in_word k) b = IsWeaker b unknown ⊎ (IsSafe v w a to k × IsWeaker b (c.own a))
+IsOwnBack v w c a to in_input b = consumed_by b ≤ consumed_by (c.own a)
 
 -- A register that the instruction leaves is not 0 on the way to b, and so neither was the number at the header.
 abbrev pub IsEvident : Values → TurnCertificate → ℕ → Instr → ℕ → Type 0
 IsEvident v c a i b = (r : ℕ) × (less : ℕ) × (shift : ℕ) × IsRegister r × (keeps r i ≡ true) × (c.row a r ≡ below less shift) ×
     (0 < least_of (passed i a b (v.at a) r))
 
--- what the place is related by behind the instruction at a, and behind a call there
-abbrev pub IsPlaceOver : Values → Stacks → TurnCertificate → ℕ → Instr → Place → Relation → Type 0
-IsPlaceOver v w c a i (in_register r) b = IsRegister r × IsRowOver v w c a i r b
-IsPlaceOver v w c a i (in_word k) b = IsWordOver v w c a i k b
+-- what the place is related by on the way from a to b, and behind a call at a
+abbrev pub IsPlaceOn : Values → Stacks → TurnCertificate → ℕ → Instr → ℕ → Place → Relation → Type 0
+IsPlaceOn v w c a i b (in_register r) q = IsRegister r × IsRowOver v w c a i r q
+IsPlaceOn v w c a i b (in_word k) q = IsWordOver v w c a i k q
+IsPlaceOn v w c a i b in_input q = (n : ℕ) × (q ≡ below n 0) × IsTakenOn v c a i b n
 
 abbrev pub IsPlaceBack : Text → Values → Stacks → TurnCertificate → (a to : ℕ) → Place → Relation → Type 0
 IsPlaceBack t v w c a to (in_register r) b = IsRegister r × IsRowBack t v w c a to r b
 IsPlaceBack t v w c a to (in_word k) b = IsOwnBack v w c a to (in_word k) b
+IsPlaceBack t v w c a to in_input b = (n : ℕ) × (b ≡ below n 0) × (n ≤ consumed_by (c.own a))
 
 -- what stands in the place at the end of a turn, by the kind
 abbrev pub IsTurned : TurnCertificate → Kind → Relation → Type 0
@@ -274,18 +330,22 @@ IsTurned c (moves factor shift) (ahead_by i) = (most : ℕ) × Covers (Some (arc
     (c.least + most + c.width < 2 ^ 32)
 IsTurned c (moves factor shift) (below less by) = ⊥
 IsTurned c (moves factor shift) (above more) = ⊥
+IsTurned c (moves factor shift) (read less) = ⊥
 IsTurned c lowers unknown = ⊥
 IsTurned c lowers (ahead_by i) = ⊥
 IsTurned c lowers (below less by) = c.least ≤ less
 IsTurned c lowers (above more) = ⊥
+IsTurned c lowers (read less) = ⊥
 IsTurned c (raises from) unknown = ⊥
 IsTurned c (raises from) (ahead_by i) = ⊥
 IsTurned c (raises from) (below less by) = ⊥
 IsTurned c (raises from) (above more) = c.least ≤ more
+IsTurned c (raises from) (read less) = ⊥
 IsTurned c (halves bits) unknown = ⊥
 IsTurned c (halves bits) (ahead_by i) = ⊥
 IsTurned c (halves bits) (below less by) = c.least ≤ by
 IsTurned c (halves bits) (above more) = ⊥
+IsTurned c (halves bits) (read less) = ⊥
 
 -- whether turns are counted by halving, which asks for a number that isn't 0
 abbrev pub is_halving : Kind → Bool
@@ -298,7 +358,7 @@ IsUsed v c a i b = (c.used a ≡ true) ⊎ IsEvident v c a i b
 
 -- a turn that the instruction at a ends, which is no call, and one that a call ends
 abbrev pub IsTurnOver : Values → Stacks → TurnCertificate → ℕ → Instr → ℕ → Type 0
-IsTurnOver v w c a i b = ((r : Relation) × IsPlaceOver v w c a i c.place r × IsTurned c c.kind r) ×
+IsTurnOver v w c a i b = ((r : Relation) × IsPlaceOn v w c a i b c.place r × IsTurned c c.kind r) ×
     (is_halving c.kind ≡ true → IsUsed v c a i b)
 
 abbrev pub IsTurnBack : Text → Values → Stacks → TurnCertificate → (a to : ℕ) → Type 0
@@ -312,9 +372,16 @@ IsStarted c lowers i = top_of i ≤ c.width
 IsStarted c (raises from) i = (from ≤ least_of i) × (top_of i ≤ from + c.width)
 IsStarted c (halves bits) i = (top_of i < 2 ^ bits) × (bits + c.least ≤ c.width + 1)
 
-abbrev pub place_arc : Values → Stacks → ℕ → Place → Option Arc
-place_arc v w a (in_register r) = held (v.at a) r
-place_arc v w a (in_word k) = w.word a k
+-- The input has no more bytes than the width, where so many are told.
+abbrev pub IsFilled : Option ℕ → (width : ℕ) → Type 0
+IsFilled None width = ⊥
+IsFilled (Some n) width = n ≤ width
+
+-- the same of a place; of what is left of the input, each turn takes something away
+abbrev pub IsStartedIn : Values → Stacks → Option ℕ → TurnCertificate → ℕ → Place → Type 0
+IsStartedIn v w most c h (in_register r) = IsStarted c c.kind (held (v.at h) r)
+IsStartedIn v w most c h (in_word k) = IsStarted c c.kind (w.word h k)
+IsStartedIn v w most c h in_input = (c.kind ≡ lowers) × IsFilled most c.width
 
 -- at the header a relation says that the number is itself
 abbrev pub IsBegun : Relation → Type 0
@@ -322,17 +389,18 @@ IsBegun unknown = Unit {0}
 IsBegun (ahead_by i) = Covers i (Some (strided 0 0 0))
 IsBegun (below less shift) = (less ≡ 0) × (shift ≡ 0)
 IsBegun (above more) = more ≡ 0
+IsBegun (read less) = ⊥
 
 -- What the code has to say of a certificate for the loop with this header and this extent. Each clause is about one edge of the graph, or
 -- about two of one call.
-pub record IsTurnCertificate (t : Text) (g : Graph) (v : Values) (w : Stacks) (header : ℕ) (extent : ℕ → Bool) (c : TurnCertificate)
-    : Type 0 where
+pub record IsTurnCertificate (t : Text) (g : Graph) (v : Values) (w : Stacks) (most : Option ℕ) (header : ℕ) (extent : ℕ → Bool)
+    (c : TurnCertificate) : Type 0 where
   -- the header is in the body, and begins it: nothing is known there but of what is counted in
   pub first : c.body header ≡ true
   pub rows : (r : ℕ) → IsRegister r → (c.row header r ≡ unknown) ⊎ ((c.place ≡ in_register r) × IsBegun (c.row header r))
   pub owns : IsBegun (c.own header)
   pub unused : c.used header ≡ false
-  pub started : IsStarted c c.kind (place_arc v w header c.place)
+  pub started : IsStartedIn v w most c header c.place
   -- the body is entered at its header alone, by edges, by calls and at the start of a run
   pub entered : (a b : ℕ) → Leads g a b → v.live a ≡ true → c.body b ≡ true → b ≢ header → c.body a ≡ true
   pub called : (a b : ℕ) → Calls g a b → v.live a ≡ true → c.body b ≡ true → b ≡ header
@@ -343,7 +411,7 @@ pub record IsTurnCertificate (t : Text) (g : Graph) (v : Values) (w : Stacks) (h
   pub along : (a b r : ℕ) (i : Instr) → Steps g a b → v.live a ≡ true → c.body a ≡ true → c.body b ≡ true → b ≢ header →
       instr_at t a ≡ Some i → IsPossible v a i b → IsRegister r → IsRowOn v w c a i b r (c.row b r)
   pub along_own : (a b : ℕ) (i : Instr) → Steps g a b → v.live a ≡ true → c.body a ≡ true → c.body b ≡ true → b ≢ header →
-      instr_at t a ≡ Some i → IsPossible v a i b → IsOwnOver v w c a i c.place (c.own b)
+      instr_at t a ≡ Some i → IsPossible v a i b → IsOwnOn v w c a i b c.place (c.own b)
   pub along_used : (a b : ℕ) (i : Instr) → Steps g a b → v.live a ≡ true → c.body a ≡ true → c.body b ≡ true → b ≢ header →
       instr_at t a ≡ Some i → IsPossible v a i b → c.used b ≡ true → IsUsed v c a i b
   -- and so does each call
@@ -364,12 +432,17 @@ pub record IsTurnCertificate (t : Text) (g : Graph) (v : Values) (w : Stacks) (h
   pub quiet_calls : (a b : ℕ) → Calls g a b → c.quiet a ≡ true → c.quiet b ≡ true
   pub quiet_apart : c.quiet header ≡ false
 
+-- an input has no more bytes than is told, where that is told
+abbrev pub IsInputWithin : Option ℕ → List ℕ → Type 0
+IsInputWithin None input = Unit {0}
+IsInputWithin (Some n) input = length input ≤ n
+
 -- A bound of a loop that the code alone shows, in one way or in the other.
-pub record IsTurnShown (t : Text) (g : Graph) (v : Values) (w : Stacks) (l : Loops) (k : ℕ) : Type 0 where
+pub record IsTurnShown (t : Text) (g : Graph) (v : Values) (w : Stacks) (most : Option ℕ) (l : Loops) (k : ℕ) : Type 0 where
   pub certificate : TurnCertificate
-  pub is : IsTurnCertificate t g v w (l.header k) (l.inside k) certificate
+  pub is : IsTurnCertificate t g v w most (l.header k) (l.inside k) certificate
   pub positive : 0 < certificate.least
   pub enough : certificate.width / certificate.least ≤ l.bound k
 
-abbrev pub IsShown : Text → Graph → Values → Stacks → Loops → ℕ → Type 0
-IsShown t g v w l k = counting.IsShown t g v w l k ⊎ IsTurnShown t g v w l k
+abbrev pub IsShown : Text → Graph → Values → Stacks → Option ℕ → Loops → ℕ → Type 0
+IsShown t g v w most l k = counting.IsShown t g v w l k ⊎ IsTurnShown t g v w most l k

@@ -156,6 +156,20 @@ pub fn joined(a: Option<Arc>, b: Option<Arc>) -> Option<Arc> {
     }
 }
 
+/// An interval that has grown is stretched to a wider one: only at its end, or only at its beginning, where it has grown there alone.
+pub fn one_sided(old: Option<Arc>, new: Option<Arc>, wide: Option<Arc>) -> Option<Arc> {
+    let (i, j, k) = (old?, new?, wide?);
+    let before = ahead(k.low(), i.low());
+    let behind = before.saturating_add(i.more());
+    if i.low() == j.low() && before <= k.more() {
+        Some(Arc::strided(i.low(), k.more() - before, k.stride()))
+    } else if ahead(j.low(), i.low()).saturating_add(i.more()) == j.more() && behind <= k.more() {
+        Some(Arc::strided(k.low(), behind, k.stride()))
+    } else {
+        wide
+    }
+}
+
 // How far below the first number of an interval the nearest threshold is, rounded to the interval's stride.
 fn nearest_below(arc: Arc, whose: Whose, ends: &Ends<'_>) -> Option<u64> {
     let mut nearest = None;

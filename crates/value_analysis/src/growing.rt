@@ -18,6 +18,7 @@ use crate::rows::{put_row, starting_row, unknown, zeros};
 use crate::states::{Facts, State, WORD_COUNT, facts_of};
 use crate::stores::arc_of;
 use crate::tables::Row;
+use crate::telling::{Telling, comparison_of, put_told, untold_nodes};
 use crate::thresholds::{Threshold, add_ends};
 use crate::ways::{Way, WayKind};
 use elf_image::ImageView;
@@ -106,6 +107,8 @@ pub struct Growth<'a> {
     pub known: Vec<Known>,
     /// By node, its place in the order in which nodes are left, and by place the node.
     places: Vec<usize>,
+    /// By node, whether nothing is told of registers there.
+    untold: Vec<bool>,
     pub order: Vec<usize>,
     /// By node.
     counts: Vec<Counts>,
@@ -139,13 +142,15 @@ impl<'a> Growth<'a> {
         let nodes = program.nodes.len();
         let functions = program.entries.len();
         let order = leaving_order(alloc, program)?;
+        let places = places_of(alloc, &order, nodes)?;
         Ok(Growth {
             program,
             forms,
             view,
             cells,
             live: vec![in alloc; false; nodes]?,
-            places: places_of(alloc, &order, nodes)?,
+            untold: untold_nodes(alloc, program, &places)?,
+            places,
             order,
             thresholds: no_thresholds(alloc, functions)?,
             facts: facts_of(alloc, nodes, zeros())?,
@@ -237,9 +242,23 @@ impl<'a> Growth<'a> {
         if !pass(step, from, self.begins(node.function), to) {
             return false;
         }
+        self.tell(step, from, way, to);
         put_loaded(&self.cells, step.instr, &from.row, &mut to.row);
         self.trace(step, from, way, to);
         true
+    }
+
+    // Puts what registers tell of others behind a step, and what is told of them on a branch.
+    fn tell(&self, step: Step, from: &Facts, way: &Way, to: &mut State) {
+        put_told(step, from, to);
+        if !self.untold.get(way.to).copied().unwrap_or(true) {
+            let telling = Telling {
+                step,
+                from,
+                passed: &to.row,
+            };
+            to.told = telling.sentences();
+        }
     }
 
     // Puts what flows over a step of sums of two registers.
@@ -261,7 +280,7 @@ impl<'a> Growth<'a> {
             return false;
         }
         self.trace(step, from, way, to);
-        to.solved = unknown();
+        to.forget_solved();
         true
     }
 
@@ -358,7 +377,7 @@ impl<'a> Growth<'a> {
             begins,
             thresholds: &self.thresholds[f],
         };
-        Ok(self.facts[k].grow(state, &growing, &mut self.counts[k]))
+        self.facts[k].grow(state, &growing, &mut self.counts[k])
     }
 
     // Has all from which a state comes to a node looked at again.
@@ -494,6 +513,21 @@ impl<'a> Growth<'a> {
         Ok(())
     }
 
+    // Takes the numbers with which an instruction that is no branch compares registers as thresholds.
+    fn note_truth(&mut self, node: &Node, k: usize) -> Result<(), NoMemory> {
+        let (Some(comparison), Some(facts)) = (comparison_of(node.instr), self.facts.get(k)) else {
+            return Ok(());
+        };
+        let (rs1, rs2) = (comparison.first, comparison.second);
+        let (first, second) = (arc_of(&facts.row, rs1), comparison.other(&facts.row));
+        let (one, other) = (name_of(&facts.names, rs1), name_of(&facts.names, rs2));
+        self.note_ends(node.function, rs1, one, &second)?;
+        if rs2 == 0 {
+            return Ok(());
+        }
+        self.note_ends(node.function, rs2, other, &first)
+    }
+
     // Takes the numbers with which a branch compares registers as thresholds.
     fn note_comparison(&mut self, k: usize) -> Result<(), NoMemory> {
         let (Some(node), Some(facts)) = (self.program.node(k), self.facts.get(k)) else {
@@ -511,7 +545,7 @@ impl<'a> Growth<'a> {
             self.note_ends(node.function, rs1, one, &second)?;
             self.note_ends(node.function, rs2, other, &first)?;
         }
-        Ok(())
+        self.note_truth(&node, k)
     }
 
     // Looks at the ways of a node.

@@ -2,14 +2,15 @@
 
 ghost use Rattle.std.specs.Prelude.{◌<◌};
 
-use crate::arcs::{holds, joined, shorter, stretched_to, widened};
+use crate::arcs::{holds, joined, kept, one_sided, shorter, stretched_to, widened};
 use crate::lines::{Flowing, Lines};
 use crate::names::{Names, name_span};
 use crate::states::{Facts, State, UNKNOWN_WORD, WORD_COUNT, name_arc, word_at};
 use crate::tables::Row;
+use crate::telling::{Sentences, is_never, is_same, is_telling};
 use crate::thresholds::Threshold;
 use scale_base::NoMemory;
-use stack_tables::{Name, Word};
+use stack_tables::{MOST_TOLD, Name, Told, Word};
 use value_checks::Line;
 use wrapped_intervals::{Arc, word};
 
@@ -30,6 +31,9 @@ const MOST_SPANS: u8 = 40;
 const LINES_WIDENED_FROM: u8 = 6;
 
 const MOST_LINES: u8 = 120;
+
+/// How often more is told at a node than before.
+const MOST_ADDED: u8 = 16;
 
 /// The number of a form that is none.
 const GONE: usize = usize::MAX;
@@ -71,6 +75,7 @@ pub struct Counts {
     ahead: [u8; 48],
     spans: [u8; 48],
     lines: u8,
+    added: u8,
 }
 
 /// What has changed at a node: whether anything has, and whether a name is given up on which what flows there by other ways may rest.
@@ -109,6 +114,7 @@ impl Counts {
             ahead: [0; 48],
             spans: [0; 48],
             lines: 0,
+            added: 0,
         }
     }
 
@@ -276,12 +282,13 @@ fn hold_words(row: &mut Row, names: &Names, words: &[Word]) {
     }
 }
 
-/// What is known of the registers that flow to a node: their intervals, and those by their names and by sums of them with others.
+/// What is known of the registers that flow to a node: their intervals, those by their names and by sums of them with others, and what of these flows.
 #[derive(Clone, Copy)]
 struct Known<'a> {
     row: &'a Row,
     named: &'a Row,
     solved: &'a Row,
+    met: &'a Row,
 }
 
 // Whether an interval is so long that it says nothing.
@@ -295,8 +302,8 @@ fn is_long(arc: &Option<Arc>) -> bool {
 impl Known<'_> {
     // Whether an interval of a register holds what is known of it.
     fn is_held(&self, arc: &Option<Arc>, k: usize) -> bool {
-        let (row, named, solved) = (self.row, self.named, self.solved);
-        k < 32 && (holds(*arc, row[k]) || is_by_name(*arc, named[k]) || is_by_name(*arc, solved[k]))
+        let (row, named, met) = (self.row, self.named, self.met);
+        k < 32 && (holds(*arc, row[k]) || is_by_name(*arc, named[k]) || is_by_name(*arc, met[k]))
     }
 
     // What the interval of a register grows to, by its name.
@@ -309,20 +316,20 @@ impl Known<'_> {
         }
     }
 
-    // What an interval that has grown so far that it says nothing is by a sum with another register.
+    // What an interval that has grown so far that it says nothing is by a sum with another register: the end that doesn't grow stays.
     fn resolved(&self, old: &Option<Arc>, new: &Option<Arc>, k: usize) -> Option<Arc> {
-        let solved = self.solved;
+        let (solved, met) = (self.solved, self.met);
         if k < 32 && is_long(new) && solved[k].is_some() {
-            joined(*old, solved[k])
+            one_sided(*old, joined(*old, met[k]), joined(*old, solved[k]))
         } else {
             *new
         }
     }
 
     fn shortest(&self, k: usize) -> Option<Arc> {
-        let (row, named, solved) = (self.row, self.named, self.solved);
+        let (row, named, met) = (self.row, self.named, self.met);
         if k < 32 {
-            shorter(solved[k], shorter(row[k], named[k]))
+            shorter(met[k], shorter(row[k], named[k]))
         } else {
             None
         }
@@ -446,6 +453,87 @@ fn put_lines(lines: &mut Vec<Line>, flowing: &Lines) -> Result<(), NoMemory> {
     Ok(())
 }
 
+// Lets what is told grow to what flows. It is given up where nothing is told there.
+fn grow_sentence(told: &mut Told, state: &State, pace: Pace) {
+    let next = if pace == Pace::Joined {
+        kept(joined(Some(told.arc), state.told_arc(told)))
+    } else {
+        None
+    };
+    match next {
+        Some(arc) if is_telling(arc) => told.arc = arc,
+        _ => told.teller = 0,
+    }
+}
+
+// Lets each of what is told grow. Whether one did, or is to be given up.
+fn grow_each_told(row: &mut [Told], state: &State, pace: Pace) -> bool {
+    let mut has_grown = false;
+    for place in 0..row.len() {
+        if !state.is_told(&row[place]) {
+            grow_sentence(&mut row[place], state, pace);
+            has_grown = true;
+        }
+    }
+    has_grown
+}
+
+// Lets what is told at a node grow, and gives up what is left without a teller. Whether any did, or is given up.
+fn grow_told(row: &mut Vec<Told>, state: &State, pace: Pace) -> bool {
+    let has_grown = grow_each_told(row, state, pace);
+    if has_grown {
+        row.retain(|told| told.teller != 0);
+    }
+    has_grown
+}
+
+// Whether a row tells the same.
+fn has_same(row: &[Told], told: &Told) -> bool {
+    for other in row {
+        if is_same(other, told) {
+            return true;
+        }
+    }
+    false
+}
+
+// Whether a sentence of what flows may be told, though it isn't in the row.
+fn is_new(row: &[Told], told: &Told, arcs: &Row) -> bool {
+    row.len() < MOST_TOLD && is_never(arcs, told) && !has_same(row, told)
+}
+
+// Adds what flows of what is told, where all that flowed there before had none of the states of which it is told. Whether there was any.
+fn add_told(
+    row: &mut Vec<Told>,
+    state: &State,
+    arcs: &Row,
+    counts: &mut Counts,
+) -> Result<bool, NoMemory> {
+    let mut has_added = false;
+    for place in 0..state.told.count() {
+        match state.told.at(place) {
+            Some(told) if counts.added < MOST_ADDED && is_new(row, &told, arcs) => {
+                counts.added = counts.added.saturating_add(1);
+                row.push(told)?;
+                has_added = true;
+            }
+            _ => {}
+        }
+    }
+    Ok(has_added)
+}
+
+// Puts what is told in the place of other.
+fn put_told(row: &mut Vec<Told>, flowing: &Sentences) -> Result<(), NoMemory> {
+    row.clear();
+    for place in 0..flowing.count() {
+        if let Some(told) = flowing.at(place) {
+            row.push(told)?;
+        }
+    }
+    Ok(())
+}
+
 // Lets the spans of registers grow. Whether one did.
 fn grow_spans(
     spans: &mut Row,
@@ -526,10 +614,12 @@ impl Facts {
             row: &state.row,
             named: &named,
             solved: &state.solved,
+            met: &state.met,
         };
         put_row(&mut self.row, known);
         put_spans(&mut self.spans, &state.spans, &self.names);
-        put_lines(&mut self.lines, &state.lines)
+        put_lines(&mut self.lines, &state.lines)?;
+        put_told(&mut self.told, &state.told)
     }
 
     // Gives up the names that differ. Whether there were any.
@@ -554,6 +644,7 @@ impl Facts {
             row: &state.row,
             named: &named,
             solved: &state.solved,
+            met: &state.met,
         };
         grow_row(&mut self.row, known, growing, counts)
     }
@@ -565,15 +656,22 @@ impl Facts {
     }
 
     /// Joins another state to what is known at the node.
-    pub fn grow(&mut self, state: &State, growing: &Growing<'_>, counts: &mut Counts) -> Change {
+    pub fn grow(
+        &mut self,
+        state: &State,
+        growing: &Growing<'_>,
+        counts: &mut Counts,
+    ) -> Result<Change, NoMemory> {
         let dropped = self.drop_names(state);
+        let added = add_told(&mut self.told, state, &self.row, counts)?;
+        let told = grow_told(&mut self.told, state, growing.pace);
         let words = self.grow_words(state, growing, counts);
         let row = self.grow_row(state, growing, counts);
         let spans = self.grow_spans(state, growing.pace, counts);
         let lines = grow_lines(&mut self.lines, &state.lines, growing.pace, counts);
-        Change {
-            grown: dropped || words || row || spans || lines,
-            dropped,
-        }
+        Ok(Change {
+            grown: dropped || added || told || words || row || spans || lines,
+            dropped: dropped || added,
+        })
     }
 }

@@ -29,6 +29,7 @@ mod sparing;
 mod states;
 mod stores;
 mod tables;
+mod telling;
 mod thresholds;
 mod ways;
 

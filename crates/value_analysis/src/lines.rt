@@ -7,7 +7,9 @@ use crate::arcs::{WORDS, kept, shorter};
 use crate::befores::{before, turned};
 use crate::forms::{Forms, MOST_WANTED, difference, is_same_sum};
 use crate::passing::Step;
-use crate::rows::{compared_line, is_different, line_of_row, passed_word, solved_arc, unknown};
+use crate::rows::{
+    compared_line, is_different, line_of_row, passed_word, solved_arc, unknown, within,
+};
 use crate::states::{Facts, State};
 use scale_base::{Instr, RegOp};
 use value_checks::Line;
@@ -266,9 +268,8 @@ impl Tracing<'_> {
     // Puts it.
     fn put_subtracted(&self, to: &mut State) {
         if let Some((r, arc)) = self.subtracted() {
-            let place = usize::from(r);
-            if place < 32 && arc.more() < LONGEST {
-                to.solved[place] = shorter(to.solved[place], Some(arc));
+            if arc.more() < LONGEST {
+                to.solve(usize::from(r), Some(arc), Some(arc));
             }
         }
     }
@@ -280,7 +281,8 @@ impl Tracing<'_> {
             if let Some((r, arc)) = self.solved_by(line) {
                 let place = usize::from(r);
                 if place < 32 {
-                    to.solved[place] = shorter(to.solved[place], Some(arc));
+                    let met = within(&Some(arc), &to.row[place]);
+                    to.solve(place, Some(arc), met);
                 }
             }
         }

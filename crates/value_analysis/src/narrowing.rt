@@ -2,7 +2,7 @@
 
 ghost use Rattle.std.specs.Prelude.{◌<◌};
 
-use crate::arcs::{holds, joined, shorter};
+use crate::arcs::{holds, joined, kept, shorter};
 use crate::forms::MOST_WANTED;
 use crate::growing::{Growth, starting_state};
 use crate::names::Names;
@@ -12,7 +12,7 @@ use crate::states::{Facts, State, WORD_COUNT, flowing_arc, word_at};
 use crate::tables::Row;
 use crate::ways::WayKind;
 use scale_base::NoMemory;
-use stack_tables::Word;
+use stack_tables::{MOST_TOLD, Told, Word};
 use std::alloc::Global;
 use value_checks::Line;
 use wrapped_intervals::Arc;
@@ -25,6 +25,9 @@ struct Gathered {
     arcs: [Option<Arc>; 64],
     /// The lines that are known where they flow to.
     lines: [Option<Arc>; 16],
+    /// And what is told there, where it is of any state that flows.
+    told: [Option<Arc>; 8],
+    is_told: [bool; 8],
 }
 
 // The intervals of what flows, by the names that are known where it flows to.
@@ -32,7 +35,7 @@ fn named_row(state: &State, names: &Names, begins: &Option<Arc>) -> Row {
     let mut row = unknown();
     for r in 0..32 {
         let named = flowing_arc(names[r], state, begins);
-        row[r] = shorter(state.solved[r], shorter(state.row[r], named));
+        row[r] = shorter(state.met[r], shorter(state.row[r], named));
     }
     row
 }
@@ -44,6 +47,8 @@ impl Gathered {
             row: unknown(),
             arcs: [None; 64],
             lines: [None; 16],
+            told: [None; 8],
+            is_told: [false; 8],
         }
     }
 
@@ -74,10 +79,26 @@ impl Gathered {
         }
     }
 
+    // Takes what is told by what flows.
+    fn add_told(&mut self, state: &State, row: &[Told]) {
+        for (place, told) in row.iter().enumerate() {
+            if place < MOST_TOLD && !state.is_never(told) {
+                let arc = state.told_arc(told);
+                self.told[place] = if self.is_told[place] {
+                    joined(self.told[place], arc)
+                } else {
+                    arc
+                };
+                self.is_told[place] = true;
+            }
+        }
+    }
+
     // Takes one more.
     fn add(&mut self, state: &State, facts: &Facts, begins: &Option<Arc>) {
         let row = named_row(state, &facts.names, begins);
         self.add_lines(state, &facts.lines);
+        self.add_told(state, &facts.told);
         if !self.found {
             self.put(state, &row);
             return;
@@ -147,6 +168,22 @@ fn narrow_lines(lines: &mut [Line], sum: &Gathered) {
     }
 }
 
+// And each of what is told.
+fn narrow_told(row: &mut [Told], sum: &Gathered) {
+    for place in 0..row.len() {
+        if place < MOST_TOLD {
+            let narrower = sum.told[place];
+            if holds(Some(row[place].arc), narrower)
+                && !holds(sum.told[place], Some(row[place].arc))
+            {
+                if let Some(arc) = kept(sum.told[place]) {
+                    row[place].arc = arc;
+                }
+            }
+        }
+    }
+}
+
 // Narrows what is known at a node to what flows there.
 fn narrow_node(growth: &mut Growth<'_>, k: usize, state: &mut State) {
     if !growth.is_live(k) {
@@ -165,6 +202,7 @@ fn narrow_node(growth: &mut Growth<'_>, k: usize, state: &mut State) {
     narrow_row(&mut facts.row, &sum.row);
     narrow_words(&mut facts.words, &sum);
     narrow_lines(&mut facts.lines, &sum);
+    narrow_told(&mut facts.told, &sum);
 }
 
 // The functions to which a node's ways return.

@@ -4,12 +4,12 @@ ghost use Rattle.std.specs.Prelude.{◌≡◌, ◌<◌, length, true};
 ghost use Rattle.std.specs.List.{All};
 ghost use Rattle.wrapped_intervals.specs.Small.{IsKeptOr};
 
-use crate::arcs::{fewer, holds, joined, kept, shorter};
+use crate::arcs::{holds, joined, kept};
 use crate::tables::Row;
-use scale_base::{BranchOp, Instr};
+use scale_base::Instr;
 use wrapped_intervals::{
-    Arc, Measure, Said, compared, exactly, is_difference, is_impossible, is_kept, keeps, line_of,
-    meet_of, passed, said_by, solved,
+    Arc, Measure, Said, compared, exactly, is_difference, is_impossible, is_kept, line_of, meet_of,
+    passed, said_by, solved,
 };
 
 /// The stack pointer at the start of a run.
@@ -58,32 +58,6 @@ fn are_kept(row: &[Option<Arc>]) -> bool
     true
 }
 
-// Whether an instruction tells which one of two numbers is less.
-fn is_ordering(i: Instr) -> bool {
-    match i {
-        Instr::Branch { op, .. } => !matches!(&op, BranchOp::Beq | BranchOp::Bne),
-        _ => false,
-    }
-}
-
-// What an instruction leaves in a register on the way to an address. Where it leaves the register, what was there is known too: that may have a stride, which
-// a comparison takes away. The end that a comparison of which one is less gives says more than the stride: without it, a number to which more than 1 is added
-// goes past the end by a turn more each time that it is looked at.
-fn passed_arc(i: Instr, pc: u32, next: u32, from: &[Option<Arc>], r: u8) -> Option<Arc>
-    requires size { length from.now ≡ 32 }
-    requires kept { All IsKeptOr from.now }
-    requires register { r < 32 }
-{
-    let arc = kept(passed(i, pc, next, from, r));
-    if !keeps(r, i) {
-        arc
-    } else if is_ordering(i) {
-        shorter(arc, from[usize::from(r)])
-    } else {
-        fewer(arc, from[usize::from(r)])
-    }
-}
-
 /// What an instruction leaves in the registers on the way to an address. None where no state goes there.
 pub fn passed_row(i: Instr, pc: u32, next: u32, from: &Row) -> Option<Row> {
     if !are_kept(from) {
@@ -94,7 +68,7 @@ pub fn passed_row(i: Instr, pc: u32, next: u32, from: &Row) -> Option<Row> {
     }
     let mut to = unknown();
     for r in 0..32 {
-        to[usize::from(r)] = passed_arc(i, pc, next, from, r);
+        to[usize::from(r)] = kept(passed(i, pc, next, from, r));
     }
     Some(to)
 }
@@ -123,6 +97,15 @@ pub fn solved_arc(m: Measure, line: &Option<Arc>, other: &Option<Arc>) -> Option
         kept(solved(m, *line, *other))
     } else {
         None
+    }
+}
+
+/// What one interval has of another one.
+pub fn within(arc: &Option<Arc>, passed: &Option<Arc>) -> Option<Arc> {
+    if is_kept(*arc) && is_kept(*passed) {
+        kept(meet_of(*arc, *passed))
+    } else {
+        *arc
     }
 }
 

@@ -3,12 +3,14 @@
 ghost use Rattle.std.specs.Prelude.{◌≡◌, ◌<◌};
 
 use crate::apart::raised;
+use crate::arcs::shorter;
 use crate::lines::Lines;
 use crate::names::Names;
 use crate::rows::{copy_of, unknown, zeros};
 use crate::tables::Row;
+use crate::telling::Sentences;
 use scale_base::NoMemory;
-use stack_tables::{Name, Word};
+use stack_tables::{Name, Told, Word};
 use std::alloc::Global;
 use value_checks::Line;
 use wrapped_intervals::{Arc, word};
@@ -30,9 +32,12 @@ pub struct State {
     pub row: Row,
     pub names: Names,
     pub spans: Row,
-    /// Intervals of sums of two registers, and what those say of registers.
+    /// Intervals of sums of two registers, and what those say of registers: by themselves, and of what flows.
     pub lines: Lines,
     pub solved: Row,
+    pub met: Row,
+    /// What registers tell of others.
+    pub told: Sentences,
     words: [Word; 64],
     count: usize,
 }
@@ -46,6 +51,8 @@ impl State {
             spans: unknown(),
             lines: Lines::none(),
             solved: unknown(),
+            met: unknown(),
+            told: Sentences::none(),
             words: [UNKNOWN_WORD; 64],
             count: 0,
         }
@@ -56,10 +63,25 @@ impl State {
         self.count = 0;
     }
 
-    /// Forgets all sums, and what they say.
+    /// Forgets all sums, and what registers tell, with what they say.
     pub fn forget_lines(&mut self) {
         self.lines.clear();
+        self.told.clear();
+        self.forget_solved();
+    }
+
+    /// Forgets what sums and others say of registers.
+    pub fn forget_solved(&mut self) {
         self.solved = unknown();
+        self.met = unknown();
+    }
+
+    /// Takes what a sum says of a register, and what of that flows, or what another one tells of it.
+    pub fn solve(&mut self, r: usize, arc: Option<Arc>, met: Option<Arc>) {
+        if r < 32 {
+            self.solved[r] = shorter(self.solved[r], arc);
+            self.met[r] = shorter(self.met[r], met);
+        }
     }
 
     /// How many words are known at most.
@@ -104,6 +126,7 @@ pub struct Facts {
     pub spans: Row,
     pub words: Vec<Word>,
     pub lines: Vec<Line>,
+    pub told: Vec<Told>,
 }
 
 impl Facts {
@@ -114,6 +137,7 @@ impl Facts {
         self.spans = unknown();
         self.words.clear();
         self.lines.clear();
+        self.told.clear();
     }
 
     /// A word.
@@ -132,6 +156,7 @@ pub fn facts_of(alloc: Global, count: usize, row: Row) -> Result<Vec<Facts>, NoM
             spans: unknown(),
             words: Vec::new(alloc),
             lines: Vec::new(alloc),
+            told: Vec::new(alloc),
         })?;
     }
     Ok(facts)

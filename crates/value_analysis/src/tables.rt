@@ -37,6 +37,7 @@ impl Tables {
                 place: None,
                 spared: Vec::new(alloc),
                 cells: Vec::new(alloc),
+                told: Vec::new(alloc),
             },
         }
     }
@@ -49,12 +50,14 @@ impl Tables {
             spans,
             words,
             lines,
+            told,
         } = facts;
         self.values.rows.push(row)?;
         self.values.lines.push(lines)?;
         self.stack.names.push(names)?;
         self.stack.spans.push(spans)?;
         self.stack.words.push(words)?;
+        self.stack.told.push(told)?;
         Ok(())
     }
 

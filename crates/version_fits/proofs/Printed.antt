@@ -1,6 +1,6 @@
 -- A draft as it is printed is no longer than with bounds filled in, which is short enough to be loaded.
 use Rattle.std.proofs.Common.{◌≡◌, ◌≤◌, ◌+◌, ℕ, List, [], ◌∷◌, ◌++◌, length, arith, length-append}
-use Rattle.std.specs.Prelude.{if◌then◌else◌, Ok}
+use Rattle.std.specs.Prelude.{if◌then◌else◌, Option, Ok}
 use Rattle.loop_drafts.specs.declared.drafted.Piece.{Piece}
 use Rattle.loop_drafts.specs.declared.drafted.LoopDraft.{LoopDraft}
 use Rattle.loop_drafts.specs.Bounds.{most_turns}
@@ -18,9 +18,9 @@ printed_shorter bound (piece ∷ pieces) =
     omega arith
 
 -- a drafted file isn't too long to be loaded
-pub printed_short : (image : List ℕ) (draft : LoopDraft) → IsDrafted image (Ok draft) → length (printed draft.pieces.items) ≤ 1048576
-printed_short image draft drafted =
-    let of : IsDraftOf drafted.0 draft = drafted.2.1 in
+pub printed_short : (image : List ℕ) (most : Option ℕ) (draft : LoopDraft) → IsDrafted image most (Ok draft) → length (printed draft.pieces.items) ≤ 1048576
+printed_short image most draft drafted =
+    let of : IsDraftOf drafted.0 most draft = drafted.2.1 in
     let shorter = printed_shorter most_turns draft.pieces.items in
     let low : length (filled_most draft.pieces.items) ≤ 1048576 = of.pieces.file.short in
     omega arith

@@ -48,21 +48,29 @@ struct Best {
     fit: Fit,
 }
 
+// An image, what it is fitted to, and the numbers of its own fit.
+#[derive(Clone, Copy)]
+struct PlainFit<'a> {
+    goal: &'a FitGoal<'a>,
+    image: &'a [u8],
+    fitted: Fitted,
+}
+
 // The fit that is chosen so far, or that of this version where it takes less.
 fn try_version<P: Progress>(
     alloc: Global,
-    goal: &FitGoal<'_>,
-    plain: &[u8],
-    without: &Fitted,
+    plain: &PlainFit<'_>,
     best: Best,
     version: Version,
     progress: &mut P,
 ) -> Result<Best, NoMemory>
-    requires best { IsBest plain.now goal.now.machine.now (map (λ input. input.items) goal.now.inputs.now) without.now best }
-    requires version { IsVersionOf plain.now version }
-    ensures { IfOk result (IsBest plain.now goal.now.machine.now (map (λ input. input.items) goal.now.inputs.now) without.now) }
+    requires best { IsBest plain.now.image.now plain.now.goal.now.machine.now plain.now.goal.now.most
+        (map (λ input. input.items) plain.now.goal.now.inputs.now) plain.now.fitted best }
+    requires version { IsVersionOf plain.now.image.now version }
+    ensures { IfOk result (IsBest plain.now.image.now plain.now.goal.now.machine.now plain.now.goal.now.most
+        (map (λ input. input.items) plain.now.goal.now.inputs.now) plain.now.fitted) }
 {
-    if let Some(fit) = fit_image(alloc, goal, &version.file, progress)? {
+    if let Some(fit) = fit_image(alloc, plain.goal, &version.file, progress)? {
         if takes_less(&fit, &best.fit) {
             return Ok(Best {
                 version: Some(version),
@@ -76,23 +84,24 @@ fn try_version<P: Progress>(
 // The fit that is chosen of a program and its versions.
 fn best_of<P: Progress>(
     alloc: Global,
-    goal: &FitGoal<'_>,
-    plain: &[u8],
+    plain: &PlainFit<'_>,
     first: Fit,
     versions: Vec<Version>,
     progress: &mut P,
 ) -> Result<Best, NoMemory>
-    requires first { IsFitOf plain.now goal.now.machine.now (map (λ input. input.items) goal.now.inputs.now) first.flags.items first.fitted }
-    requires versions { All (IsVersionOf plain.now) versions.items }
-    ensures { IfOk result (IsBest plain.now goal.now.machine.now (map (λ input. input.items) goal.now.inputs.now) first.fitted) }
+    requires first { IsFitOf plain.now.image.now plain.now.goal.now.machine.now plain.now.goal.now.most
+        (map (λ input. input.items) plain.now.goal.now.inputs.now) first.flags.items plain.now.fitted }
+    requires least { first.fitted.energy ≤ plain.now.fitted.energy }
+    requires versions { All (IsVersionOf plain.now.image.now) versions.items }
+    ensures { IfOk result (IsBest plain.now.image.now plain.now.goal.now.machine.now plain.now.goal.now.most
+        (map (λ input. input.items) plain.now.goal.now.inputs.now) plain.now.fitted) }
 {
-    let without = first.fitted;
     let mut best = Best {
         version: None,
         fit: first,
     };
     for version in versions {
-        best = try_version(alloc, goal, plain, &without, best, version, progress)?;
+        best = try_version(alloc, plain, best, version, progress)?;
     }
     Ok(best)
 }
@@ -100,23 +109,23 @@ fn best_of<P: Progress>(
 // The choice among versions of a program that is fitted so.
 fn chosen_of<P: Progress>(
     alloc: Global,
-    goal: &FitGoal<'_>,
-    plain: &[u8],
+    plain: &PlainFit<'_>,
     first: Fit,
     versions: Vec<Version>,
     progress: &mut P,
 ) -> Result<Option<ChosenVersion>, NoMemory>
-    requires first { IsFitOf plain.now goal.now.machine.now (map (λ input. input.items) goal.now.inputs.now) first.flags.items first.fitted }
-    requires versions { All (IsVersionOf plain.now) versions.items }
-    ensures { IfOk result (λ chosen. IfSome chosen (IsChosenVersion plain.now goal.now.machine.now
-        (map (λ input. input.items) goal.now.inputs.now))) }
+    requires first { IsFitOf plain.now.image.now plain.now.goal.now.machine.now plain.now.goal.now.most
+        (map (λ input. input.items) plain.now.goal.now.inputs.now) first.flags.items plain.now.fitted }
+    requires least { first.fitted.energy ≤ plain.now.fitted.energy }
+    requires versions { All (IsVersionOf plain.now.image.now) versions.items }
+    ensures { IfOk result (λ chosen. IfSome chosen (IsChosenVersion plain.now.image.now plain.now.goal.now.machine.now
+        plain.now.goal.now.most (map (λ input. input.items) plain.now.goal.now.inputs.now))) }
 {
-    let without = first.fitted;
-    let Best { version, fit } = best_of(alloc, goal, plain, first, versions, progress)?;
+    let Best { version, fit } = best_of(alloc, plain, first, versions, progress)?;
     match version {
         Some(version) => Ok(Some(ChosenVersion {
             version,
-            without,
+            without: plain.fitted,
             fitted: fit.fitted,
         })),
         None => Ok(None),
@@ -133,8 +142,8 @@ fn choose_by<P: Progress>(
 ) -> Result<Option<ChosenVersion>, NoMemory>
     requires plain { length plain.now ≤ IMAGE_LIMIT }
     requires short { length loops.now ≤ FILE_LIMIT }
-    requires loops { IsDraftedFile plain.now loops.now }
-    ensures { IfOk result (λ chosen. IfSome chosen (IsChosenVersion plain.now goal.now.machine.now
+    requires loops { IsDraftedFile plain.now goal.now.most loops.now }
+    ensures { IfOk result (λ chosen. IfSome chosen (IsChosenVersion plain.now goal.now.machine.now goal.now.most
         (map (λ input. input.items) goal.now.inputs.now))) }
 {
     let versions = find_versions(alloc, plain, loops)?;
@@ -142,7 +151,14 @@ fn choose_by<P: Progress>(
         return Ok(None);
     }
     match fit_file(alloc, goal, plain, loops, progress)? {
-        Some(first) => chosen_of(alloc, goal, plain, first, versions, progress),
+        Some(first) => {
+            let plain = PlainFit {
+                goal,
+                image: plain,
+                fitted: first.fitted,
+            };
+            chosen_of(alloc, &plain, first, versions, progress)
+        }
         None => Ok(None),
     }
 }
@@ -158,7 +174,7 @@ pub fn choose_version<P: Progress>(
     progress: &mut P,
 ) -> Result<Option<ChosenVersion>, NoMemory>
     requires { length plain.now ≤ IMAGE_LIMIT }
-    ensures { IfOk result (λ chosen. IfSome chosen (IsChosenVersion plain.now goal.now.machine.now
+    ensures { IfOk result (λ chosen. IfSome chosen (IsChosenVersion plain.now goal.now.machine.now goal.now.most
         (map (λ input. input.items) goal.now.inputs.now))) }
 {
     match drafted_file(alloc, goal, plain, progress)? {

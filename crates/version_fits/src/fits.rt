@@ -8,17 +8,18 @@ ghost use Rattle.version_fits.specs.Chosen.{IsDraftedFile, IsFitBy, IsFitOf};
 
 use crate::proposals::proposals_of;
 use gain_tuner::GivenFiles;
-use loop_drafts::{draft_loops, printed_text};
+use loop_drafts::{DraftInputs, draft_loops, printed_text};
 use pace_fit::{Fitted, Prepared, choose, prepare};
 use run_progress::Progress;
 use scale_base::{FILE_LIMIT, IMAGE_LIMIT, NoMemory, Stop};
 use std::alloc::Global;
 
-/// What an image is fitted to: a machine and inputs.
+/// What an image is fitted to: a machine and inputs, and how many bytes an input has at most, where that is told.
 #[derive(Clone, Copy)]
 pub struct FitGoal<'a> {
     pub machine: &'a [u8],
     pub inputs: &'a [Vec<u8>],
+    pub most: Option<u32>,
     ghost short: { length machine.now ≤ FILE_LIMIT },
     ghost few: { length inputs.now ≤ 64 },
     ghost inputs_short: { All (λ input. length input.items ≤ FILE_LIMIT) inputs.now },
@@ -38,10 +39,14 @@ pub fn drafted_file<P: Progress>(
     image: &[u8],
     progress: &mut P,
 ) -> Result<Option<String>, NoMemory>
-    ensures drafted { IfOk result (λ file. IfSome file (λ file. IsDraftedFile image.now (string_bytes file))) }
+    ensures drafted { IfOk result (λ file. IfSome file (λ file. IsDraftedFile image.now goal.now.most (string_bytes file))) }
     ensures short { IfOk result (λ file. IfSome file (λ file. length (string_bytes file) ≤ FILE_LIMIT)) }
 {
-    match draft_loops(alloc, image, goal.inputs, progress) {
+    let inputs = DraftInputs {
+        items: goal.inputs,
+        most: goal.most,
+    };
+    match draft_loops(alloc, image, &inputs, progress) {
         Ok(draft) => {
             if draft.unbounded > 0 {
                 return Ok(None);
@@ -111,8 +116,8 @@ pub fn fit_image<P: Progress>(
     image: &[u8],
     progress: &mut P,
 ) -> Result<Option<Fit>, NoMemory>
-    ensures { IfOk result (λ fit. IfSome fit (λ fit. IsFitOf image.now goal.now.machine.now (map (λ input. input.items) goal.now.inputs.now)
-        fit.flags.items fit.fitted)) }
+    ensures { IfOk result (λ fit. IfSome fit (λ fit. IsFitOf image.now goal.now.machine.now goal.now.most
+        (map (λ input. input.items) goal.now.inputs.now) fit.flags.items fit.fitted)) }
 {
     if image.len() > IMAGE_LIMIT {
         return Ok(None);

@@ -4,7 +4,38 @@ ghost use Rattle.std.specs.Prelude.{◌≡◌, ◌≤◌, ◌<◌, ◌^◌, Some
 ghost use Rattle.bound_laws.specs.Values as values;
 ghost use Rattle.wrapped_intervals.specs.Small.{IsFound, IsFoundOr};
 
-use crate::arcs::{Arc, WORDS, from_to, top_of};
+use crate::arcs::{Arc, WORDS, from_to};
+
+// Whether each number is 0 or has all bits.
+fn is_mask(i: Arc) -> bool
+    ensures { result ≡ values.is_mask i }
+{
+    i.low() == WORDS - 1 && i.more() < 2
+}
+
+// Whether an interval goes on from the greatest number to 0.
+fn goes_round(i: Arc) -> bool
+    requires { IsFound i }
+    ensures { result ≡ values.goes_round i }
+{
+    i.low() + i.more() >= WORDS
+}
+
+// What two numbers have in common.
+fn common(i: Arc, j: Arc) -> Arc
+    requires i { IsFound i }
+    requires j { IsFound j }
+    ensures common { result ≡ values.common i j }
+    ensures found { IsFound result }
+{
+    if is_mask(j) && goes_round(i) {
+        Arc::of(i.low(), i.more())
+    } else if is_mask(i) && goes_round(j) {
+        Arc::of(j.low(), j.more())
+    } else {
+        Arc::of(0, i.top().min(j.top()))
+    }
+}
 
 /// What the bits of both numbers have in common.
 pub fn common_of(i: Option<Arc>, j: Option<Arc>) -> Option<Arc>
@@ -16,7 +47,8 @@ pub fn common_of(i: Option<Arc>, j: Option<Arc>) -> Option<Arc>
     match (i, j) {
         (None, None) => None,
         (None, Some(j)) => Some(Arc::of(0, j.top())),
-        (Some(i), j) => Some(Arc::of(0, i.top().min(top_of(j)))),
+        (Some(i), None) => Some(Arc::of(0, i.top())),
+        (Some(i), Some(j)) => Some(common(i, j)),
     }
 }
 

@@ -5,6 +5,7 @@ ghost use Rattle.bound_laws.specs.Values as values;
 ghost use Rattle.wrapped_intervals.specs.Small.{IsFound, IsFoundOr, IsKept, IsKeptOr, IsSeen};
 
 use crate::arcs::{Arc, WORDS};
+use crate::covering::meet;
 use crate::sums::plus;
 use scale_base::BranchOp;
 use std::marker::Model;
@@ -296,7 +297,8 @@ fn first_where(op: BranchOp, i: Arc, j: Arc) -> Arc
     match op {
         BranchOp::Bne => other_than(i, j),
         BranchOp::Beq | BranchOp::Blt | BranchOp::Bge | BranchOp::Bltu | BranchOp::Bgeu => {
-            of_view(op, first_range(op, view(op, i), view(op, j)))
+            let range = first_range(op, view(op, i), view(op, j));
+            meet(i, of_view(op, range))
         }
     }
 }
@@ -310,7 +312,8 @@ fn second_where(op: BranchOp, i: Arc, j: Arc) -> Arc
     match op {
         BranchOp::Bne => other_than(j, i),
         BranchOp::Beq | BranchOp::Blt | BranchOp::Bge | BranchOp::Bltu | BranchOp::Bgeu => {
-            of_view(op, second_range(op, view(op, i), view(op, j)))
+            let range = second_range(op, view(op, i), view(op, j));
+            meet(j, of_view(op, range))
         }
     }
 }

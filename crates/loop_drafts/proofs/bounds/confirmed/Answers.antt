@@ -8,4 +8,4 @@ pub returns-clause-found : goal.returns-clause-found
 returns-clause-found c =
     let claim = c.args.claim.now in
     let code = claim.graph.now.code in
-    inr (turning_shown claim.view.now code (values_of code claim.table.now) (stacks_of code claim.stack.now) _ _ _ c.in_ok-turning.ensures.note (c.if-not-is_shown.ensures refl))
+    inr (turning_shown claim.view.now code (values_of code claim.table.now) (stacks_of code claim.stack.now) c.args.candidate.most _ _ _ c.in_ok-turning.ensures.note (c.if-not-is_shown.ensures refl))

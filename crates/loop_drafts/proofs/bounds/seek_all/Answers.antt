@@ -7,7 +7,7 @@ pub loop-k-preserved : goal.loop-k-preserved
 loop-k-preserved c =
     let sought = c.in_ok-seek_or_stop.field-0 in
     let items = c.loop-k.bounds.notes.items in (
-      All-same (IsFoundBy c.args.claim.now) _ _ c.in_ok-push.ensures.notes (All-push (IsFoundBy c.args.claim.now) items sought.note c.loop-k.invariant.0 c.in_ok-seek_or_stop.ensures.found),
+      All-same (IsFoundBy c.args.sources.now.most c.args.claim.now) _ _ c.in_ok-push.ensures.notes (All-push (IsFoundBy c.args.sources.now.most c.args.claim.now) items sought.note c.loop-k.invariant.0 c.in_ok-seek_or_stop.ensures.found),
       All-same (IsLeastFoundBy c.args.claim.now) _ _ c.in_ok-push.ensures.notes (All-push (IsLeastFoundBy c.args.claim.now) items sought.note c.loop-k.invariant.1 c.in_ok-seek_or_stop.ensures.least),
       subst (AreReturnsFoundBy c.args.claim.now) (sym c.in_ok-push.ensures.returns) c.loop-k.invariant.2,
     )

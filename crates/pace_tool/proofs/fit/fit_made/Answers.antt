@@ -10,7 +10,7 @@ pub invariant_of-fit_reply : goal.invariant_of-fit_reply
 invariant_of-fit_reply g c =
     let files : List (Vec ℕ Global) = c.args.files.now in
     let fit = c.args.command.now in
-    let split = three_first (texts fit.inputs.names.now) (fit.program.image.now, 4194304) (fit.program.machine.now, 1048576) (fit.program.loops.now, 1048576) files c.requires in
+    let split = three_first 1048576 (omega arith) (texts fit.inputs.names.now) (fit.program.image.now, 4194304) (fit.program.machine.now, 1048576) (fit.program.loops.now, 1048576) files c.requires in
     let count : length c.split_at.result.1.now ≡ length fit.inputs.names.now = as_many 3 _ fit.inputs.names.now files c.split_at.result.1.now split c.split_at.ensures.back in
     let few = fit.inputs.few in
     record {

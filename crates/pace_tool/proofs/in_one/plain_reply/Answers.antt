@@ -11,6 +11,6 @@ returns-else-goal g c =
     let inputs = files_view to.inputs.items.now in
     let image : List ℕ = c.args.image.now in
     let text : List ℕ = string_bytes c.args.text in
-    tried_told to.machine.now to.out.now inputs to.versions image text image [] c.tried_reply.result
-    (subst (λ (versions : Bool). IsTried to.machine.now inputs versions image image []) (sym c.if-goal.false) (refl, refl))
-    (subst (λ (all : List ℕ). Replies (MakesOfTried to.machine.now to.out.now inputs image all) c.tried_reply.result) (sym (append-nil text)) c.tried_reply.ensures)
+    tried_told to.machine.now to.out.now to.most inputs to.versions image text image [] c.tried_reply.result
+    (subst (λ (versions : Bool). IsTried to.machine.now to.most inputs versions image image []) (sym c.if-goal.false) (refl, refl))
+    (subst (λ (all : List ℕ). Replies (MakesOfTried to.machine.now to.out.now to.most inputs image all) c.tried_reply.result) (sym (append-nil text)) c.tried_reply.ensures)

@@ -17,5 +17,5 @@ invariant-loop-step g l =
     record {
       progress : Progress job l.step (machine_setting g.M.Memory.layout l.machine) (state_of g.M.Memory.bytes l.machine) (tallied l.fn.given.power.now l.tally) l.watcher;
       code : IsDecodedCode (g.M.Memory.layout l.machine.memory) (g.M.Memory.bytes l.machine.memory) l.code;
-      costs : AreCosts l.fn.given.power.now.costs l.costs.by_class;
+      costs : AreCosts l.fn.given.power.now.costs l.prices.costs.by_class;
     }

@@ -10,5 +10,8 @@ returns-then-is_covered_by_name c so = inr (inl (c.if-is_covered_by_name.ensures
 pub returns-then-is_subtracted : goal.returns-then-is_subtracted
 returns-then-is_subtracted c so = inr (inr (inl (c.if-is_subtracted.ensures refl)))
 
+pub returns-then-is_cell_loaded : goal.returns-then-is_cell_loaded
+returns-then-is_cell_loaded c so = inr (inr (inr (inl (c.if-is_cell_loaded.ensures refl))))
+
 pub returns : goal.returns
-returns c so = inr (inr (inr (c.is_cell_loaded.ensures so)))
+returns c so = inr (inr (inr (inr (c.is_told_to.ensures so))))

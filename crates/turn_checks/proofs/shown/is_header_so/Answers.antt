@@ -10,6 +10,6 @@ returns c so = record {
   rows = rows_begun_in c.args.case.now (c.if-not-are_rows_begun.ensures refl);
   owns = subst IsBegun c.own_at.ensures (c.if-not-is_begun.ensures refl);
   unused = sym c.is_used.ensures ∙ c.if-is_used.false;
-  started = started_in c.args.case.now c.place_arc.result c.place_arc.ensures.arc (c.if-not-is_started.ensures refl);
+  started = started_in c.args.case.now (c.if-not-is_started_in.ensures refl);
   quiet = sym c.is_quiet.ensures ∙ not-true c.is_quiet.result so;
 }

@@ -15,6 +15,6 @@ returns-in-Ok-clause-drafted g c =
 
 pub returns-in-Ok-clause-short : goal.returns-in-Ok-clause-short
 returns-in-Ok-clause-short g c =
-    let short = printed_short c.args.image.now c.in-Ok.draft c.in-Ok.ensures in
+    let short = printed_short c.args.image.now c.args.goal.now.most c.in-Ok.draft c.in-Ok.ensures in
     let size = ap length (c.in_ok-printed_text-in-Ok.ensures ∙ ap printed c.deref.ensures.value) in
     omega (arith, short, size)
