@@ -1,7 +1,7 @@
 #!/usr/bin/env python3
 """Checks the boundaries of crates, and ends with 1 where one is crossed.
 
-A crate cites of the proofs of another one the lemmas of `proofs/Laws.antt` alone, but for the modules in LET_THROUGH. The clauses of a public function name no
+A crate cites of the proofs of another one the lemmas of `proofs/Laws.antt` alone. The clauses of a public function name no
 field that is private to its crate.
 """
 
@@ -16,8 +16,6 @@ CRATES = sorted(path.parent for path in (ROOT / "crates").glob("*/src"))
 NAMES = {crate.name for crate in CRATES}
 
 CITED = re.compile(r"Rattle\.(\w+)\.proofs\.(\w+)|\b(\w+)::proofs::(\w+)")
-# Which modules of another crate's proofs a file cites that are no `Laws`: docs/DECISIONS.md, "Two modules are let through".
-LET_THROUGH = {("crates/stack_laws/proofs/Telling.antt", "bound_laws", "Arcs"), ("crates/stack_laws/proofs/Telling.antt", "bound_laws", "Transfers")}
 STRUCT = re.compile(r"struct (\w+)[^{;(]*\{([^}]*)\}")
 FIELD = re.compile(r"^\s*(pub(?:\([^)]*\))? )?(\w+):", re.M)
 RECORD_FIELD = re.compile(r"^\s+pub (\w+) :", re.M)
@@ -34,7 +32,7 @@ def foreign_proofs(crate):
         for found in CITED.finditer(path.read_text()):
             of, module = found.group(1) or found.group(3), found.group(2) or found.group(4)
             file = str(path.relative_to(ROOT))
-            if of != crate.name and of in NAMES and module != "Laws" and (file, of, module) not in LET_THROUGH:
+            if of != crate.name and of in NAMES and module != "Laws":
                 yield f"{file}: cites {module} of the proofs of {of}"
 
 

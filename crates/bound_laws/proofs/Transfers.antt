@@ -180,7 +180,7 @@ first_seen op i j a b x y h = meet_in i (of_view op (first_range op (view op i) 
 second_seen : (op : BranchOp) (i j : Arc) (a b : ℕ) → IsIn i a → IsIn j b → is_taken op a b ≡ true → IsIn (meet j (of_view op (second_range op (view op i) (view op j)))) b
 second_seen op i j a b x y h = meet_in j (of_view op (second_range op (view op i) (view op j))) b y (seen_back op (second_range op (view op i) (view op j)) b y.word (second_between op (view op i) (view op j) a b x.word y.word (seen_in op i a x) (seen_in op j b y) h))
 
-first_in : (op : BranchOp) (i j : Option Arc) (a b : ℕ) → IsHeld i a → IsHeld j b → is_taken op a b ≡ true → IsHeld (first_by op i j) a
+pub first_in : (op : BranchOp) (i j : Option Arc) (a b : ℕ) → IsHeld i a → IsHeld j b → is_taken op a b ≡ true → IsHeld (first_by op i j) a
 first_in op None j a b x y h = tt
 first_in op (Some i) None a b x y h = x
 first_in Beq (Some i) (Some j) a b x y h = first_seen Beq i j a b x y h
@@ -191,7 +191,7 @@ first_in Bge (Some i) (Some j) a b x y h = first_seen Bge i j a b x y h
 first_in Bltu (Some i) (Some j) a b x y h = first_seen Bltu i j a b x y h
 first_in Bgeu (Some i) (Some j) a b x y h = first_seen Bgeu i j a b x y h
 
-second_in : (op : BranchOp) (i j : Option Arc) (a b : ℕ) → IsHeld i a → IsHeld j b → is_taken op a b ≡ true → IsHeld (second_by op i j) b
+pub second_in : (op : BranchOp) (i j : Option Arc) (a b : ℕ) → IsHeld i a → IsHeld j b → is_taken op a b ≡ true → IsHeld (second_by op i j) b
 second_in op None None a b x y h = tt
 second_in op (Some i) None a b x y h = tt
 second_in op None (Some j) a b x y h = y

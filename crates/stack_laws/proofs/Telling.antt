@@ -16,9 +16,7 @@ use Rattle.scale_base.specs.Arith.{plus, unsigned, signed, one_if, is_taken, imm
 use Rattle.scale_base.specs.State.{reg}
 use Rattle.bound_laws.specs.Registers.{keeps}
 use Rattle.bound_laws.specs.Values.{Arc, IsIn, IsHeld, arc, exactly, ahead, held, sum_with, meet, meet_of, opposite, is_signed, view, of_view, Interval, first_range, second_range, first_by, second_by, passed, Covers, IsRegister, Values}
-use Rattle.bound_laws.proofs.Arcs.{IsBetween, meet_in, of_plain, of_biased, only_one}
-use Rattle.bound_laws.proofs.Transfers.{seen, seen_in, first_between, second_between}
-use Rattle.bound_laws.proofs.Laws.{in_covers, in_exactly, sum_with_in, meet_of_in, held_of, word_of}
+use Rattle.bound_laws.proofs.Laws.{IsBetween, first_between, held_of, in_covers, in_exactly, meet_in, meet_of_in, of_biased, of_plain, only_one, second_between, seen, seen_in, sum_with_in, word_of}
 use Rattle.stack_laws.specs.Telling.{Told, IsSo, AreSo, IsTelling, imm_test, reg_test, test_where, IsCompared, IsHanded, IsCarried, IsToldBy, IsToldBehind, IsToldTo}
 use Rattle.stack_laws.specs.Telling.IsCompared.{with_number, first, second}
 use Rattle.stack_laws.specs.Telling.IsHanded.{left, copied, is_not_zero, is_zero, turned, masked, both_first, both_second, either_first, either_second}
