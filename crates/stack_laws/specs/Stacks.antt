@@ -18,6 +18,7 @@ use Rattle.bound_laws.specs.Turning.{Leads, Calls}
 use Rattle.bound_laws.specs.Values.{Arc, IsIn, ahead, strided, word, exactly, top_of, sum_of, sum_with, opposite_of, held, IsHeld, Covers, said, passed, line_of, IsImpossible, keeps_at, IsRegister, Values, Steps, IsCovered, IsLineCovered, AreIn}
 use Rattle.stack_laws.specs.Making.{IsLineMade, IsSubtracted}
 use Rattle.stack_laws.specs.Cells.{Cell, IsCellHeld, IsBeside, IsStoredInto, IsLoadedFrom}
+use Rattle.stack_laws.specs.Areas.{IsAccessedIn, IsCoveredByAccess}
 use Rattle.stack_laws.specs.Telling.{Told, IsTelling, IsToldBehind, IsToldTo}
 
 -- ---- where values come from
@@ -54,6 +55,8 @@ pub record Stacks : Type 0 where
   -- By address and a number, before the instruction there: what a register that is 0, or isn't, tells of another one. The numbers of different
   -- addresses have nothing to do with each other.
   pub told : ℕ → ℕ → Option Told
+  -- by number, intervals of addresses that hold all that may be loaded from or stored to
+  pub areas : ℕ → Option Arc
 
 -- What the code of a function sees: the registers, the words of its stack by number, the registers when it began, and memory.
 pub record View : Type 0 where
@@ -255,11 +258,11 @@ pub record IsCellLoaded (v : Values) (w : Stacks) (i : Instr) (a b r : ℕ) : Ty
   pub covers : Covers (v.at b r) (Some cell.values)
 
 -- a register's interval at b: as in an invariant of intervals, by its name, by a line of the difference that the instruction writes, by a
--- cell that it loads, or by what another register tells
+-- cell that it loads, by what another register tells, or by where an access through it may be
 abbrev pub IsCoveredOver : Values → Stacks → Instr → ℕ → ℕ → ℕ → Type 0
 IsCoveredOver v w i a b r =
     IsCovered v i a b r ⊎ Covers (v.at b r) (name_arc v w b (w.name b r)) ⊎ IsSubtracted v i a b r ⊎ IsCellLoaded v w i a b r
-    ⊎ IsToldTo v (w.told a) i a b r
+    ⊎ IsToldTo v (w.told a) i a b r ⊎ IsCoveredByAccess v w.areas i a b r
 
 -- the register holds this number alone
 abbrev pub IsExactly : Values → ℕ → ℕ → Arc → Type 0
@@ -278,13 +281,17 @@ pub data IsNamedOver (v : Values) (w : Stacks) (i : Instr) (a b r : ℕ) : Type 
   loaded_as : (k : ℕ) → IsLoadedTo w a i k r → w.name b r ≡ w.word_name a k → IsNamedOver v w i a b r
   stored : (k : ℕ) → IsStoredFrom w a i k r → is_some (v.at a r) ≡ true → w.name b r ≡ Some (of_word k 0) → IsNamedOver v w i a b r
 
--- a word's interval at b: any word, the one it had, that of a register that is stored, or what a branch says of a register that has its value
+-- a word's interval at b: any word, the one it had, that of a register that is stored, what a branch says of a register that has its value, or
+-- where an access through a register that is so much more than the word may be
 pub data IsWordCovered (v : Values) (w : Stacks) (i : Instr) (a b k : ℕ) : Type 0 where
   any : Covers (w.word b k) word → IsWordCovered v w i a b k
   kept : IsMissed v w a i k → Covers (w.word b k) (w.word a k) → IsWordCovered v w i a b k
   stored : (r : ℕ) → IsStoredFrom w a i k r → Covers (w.word b k) (held (v.at a) r) → IsWordCovered v w i a b k
   tied : (r more : ℕ) → IsRegister r → keeps r i ≡ true → w.name a r ≡ Some (of_word k more) → IsMissed v w a i k →
       Covers (w.word b k) (sum_with (passed i a b (v.at a) r) (opposite_of more)) → IsWordCovered v w i a b k
+  accessed : (r more further : ℕ) (place : Arc) → IsRegister r → w.name a r ≡ Some (of_word k more) → IsMissed v w a i k →
+      IsAccessedIn v w.areas i a r further place → Covers (w.word b k) (sum_with (Some place) (opposite_of (plus further more))) →
+      IsWordCovered v w i a b k
 
 -- a word's name at b: none, the one it had, or that of a register that is stored
 pub data IsWordNamed (v : Values) (w : Stacks) (i : Instr) (a b k : ℕ) : Type 0 where
@@ -292,7 +299,15 @@ pub data IsWordNamed (v : Values) (w : Stacks) (i : Instr) (a b k : ℕ) : Type 
   kept : w.word_name b k ≡ w.word_name a k → IsMissed v w a i k → IsSteady v w a i (w.word_name a k) → IsWordNamed v w i a b k
   stored : (r : ℕ) → IsStoredFrom w a i k r → w.word_name b k ≡ name_of w a r → IsSteady v w a i (name_of w a r) → IsWordNamed v w i a b k
 
--- a register's span at b: the one it had, by its name, by a sum, or by a word that is loaded
+-- the register is a word at b, and its interval there, less what x2 had when the function began, where that is one number
+pub record IsSpannedByInterval (v : Values) (w : Stacks) (b r : ℕ) : Type 0 where
+  pub begun : Arc
+  pub begun_is : w.begins (v.function b) ≡ Some begun
+  pub one : begun.more ≡ 0
+  pub known : is_some (v.at b r) ≡ true
+  pub covers : Covers (w.span b r) (sum_with (v.at b r) (opposite_of begun.low))
+
+-- a register's span at b: the one it had, by its name, by a sum, by a word that is loaded, or by its interval
 pub data IsSpannedOver (v : Values) (w : Stacks) (i : Instr) (a b r : ℕ) : Type 0 where
   unspanned : w.span b r ≡ None → IsSpannedOver v w i a b r
   kept : keeps r i ≡ true → Covers (w.span b r) (w.span a r) → IsSpannedOver v w i a b r
@@ -304,6 +319,7 @@ pub data IsSpannedOver (v : Values) (w : Stacks) (i : Instr) (a b r : ℕ) : Typ
   added_to : (rs1 rs2 : ℕ) → i ≡ Reg Add r rs1 rs2 → Covers (w.span b r) (known_sums (span_of w a rs2) (held (v.at a) rs1)) →
       IsSpannedOver v w i a b r
   loaded : (k : ℕ) → IsLoadedTo w a i k r → Covers (w.span b r) (w.word_span a k) → IsSpannedOver v w i a b r
+  by_interval : IsSpannedByInterval v w b r → IsSpannedOver v w i a b r
 
 -- a word's span at b: the one it had, by its name, or that of a register that is stored
 pub data IsWordSpanned (v : Values) (w : Stacks) (i : Instr) (a b k : ℕ) : Type 0 where
