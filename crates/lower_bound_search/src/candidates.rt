@@ -143,14 +143,9 @@ impl Candidates {
         Ok(())
     }
 
-    /// How many there are.
-    pub fn count(&self) -> usize {
-        self.items.len()
-    }
-
-    /// The k-th one.
-    pub fn get(&self, k: usize) -> Option<Counter> {
-        self.items.get(k).copied()
+    /// The first ones, so many at most.
+    pub fn first(&self, most: usize) -> &[Counter] {
+        &self.items[..most.min(self.items.len())]
     }
 }
 

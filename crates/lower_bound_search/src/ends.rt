@@ -18,22 +18,20 @@ pub struct Ends {
 }
 
 impl Ends {
-    // Adds a step, if it is one.
+    // Adds a step that enters a loop, if it isn't `leaving`, or leaves it.
     fn add_step(
         &mut self,
         claim: &StackClaim<'_>,
-        note: &LoopNote,
         step: Step,
+        leaving: bool,
     ) -> Result<(), NoMemory>
         requires claim { IsStackClaim claim.now }
         requires step { IsStep claim.now step }
     {
-        let inside = in_extent(note, address(claim, step.from));
-        let stays = in_extent(note, address(claim, step.to));
-        if inside == stays || is_never(claim, step) {
+        if is_never(claim, step) {
             return Ok(());
         }
-        if inside {
+        if leaving {
             self.leaving.push(step)?;
         } else {
             self.entering.push(step)?;
@@ -41,7 +39,7 @@ impl Ends {
         Ok(())
     }
 
-    // Adds edge e, if it is a step.
+    // Adds edge e, if it is a step that enters the loop or leaves it. What instruction it is of is read only then, since most edges do neither.
     fn add_edge(
         &mut self,
         claim: &StackClaim<'_>,
@@ -55,11 +53,12 @@ impl Ends {
         let (Some(to), None) = (claim.graph.target(e), claim.graph.callee(e)) else {
             return Ok(());
         };
-        if !is_live(claim, from) {
+        let leaving = in_extent(note, address(claim, from));
+        if leaving == in_extent(note, address(claim, to)) || !is_live(claim, from) {
             return Ok(());
         }
         match instruction(claim, from) {
-            Some(instr) => self.add_step(claim, note, Step { instr, from, to }),
+            Some(instr) => self.add_step(claim, Step { instr, from, to }, leaving),
             None => Ok(()),
         }
     }

@@ -180,7 +180,30 @@ fn better(
     }
 }
 
-/// How often a loop turns at least, as far as it is found.
+// The best that the code confirms of what is found with the first so many candidates.
+fn best_of(
+    alloc: Global,
+    claim: &StackClaim<'_>,
+    looped: CountedLoop<'_>,
+    ends: &Ends,
+    candidates: &[Counter],
+) -> Result<Option<LowerFound>, NoMemory>
+    requires { IsStackClaim claim.now }
+{
+    let mut best = None;
+    for counter in candidates {
+        let counter = *counter;
+        let other = CountedLoop { counter, ..looped }.found(alloc, claim, ends)?;
+        best = better(alloc, claim, looped.note, best, other)?;
+        if least_of(&best) >= looped.note.bound {
+            break;
+        }
+    }
+    Ok(best)
+}
+
+/// How often a loop turns at least, as far as it is found. Whether the code confirms it is asked only where there are several to choose from: whoever
+/// notes it asks anyway.
 pub fn find_lower(
     alloc: Global,
     claim: &StackClaim<'_>,
@@ -190,15 +213,10 @@ pub fn find_lower(
 {
     let ends = ends_of(alloc, claim, looped.note)?;
     let candidates = candidates_of(alloc, claim, looped.header, &ends, looped.counter)?;
-    let mut best = None;
-    for k in 0..candidates.count().min(most_tried(claim.graph.node_count())) {
-        if let Some(counter) = candidates.get(k) {
-            let other = CountedLoop { counter, ..looped }.found(alloc, claim, &ends)?;
-            best = better(alloc, claim, looped.note, best, other)?;
-        }
-        if least_of(&best) >= looped.note.bound {
-            break;
-        }
+    let tried = candidates.first(most_tried(claim.graph.node_count()));
+    if tried.len() == 1 {
+        let counter = tried[0];
+        return CountedLoop { counter, ..looped }.found(alloc, claim, &ends);
     }
-    Ok(best)
+    best_of(alloc, claim, looped, &ends, tried)
 }
