@@ -69,8 +69,12 @@ fn has_alike(chosen: &[EdgeGain], other: &EdgeGain) -> bool {
 impl Known<'_> {
     /// Energy that no switch saves: that of the runs at the starting level.
     pub fn held_energy(&self) -> u128 {
-        let level = energy_at(self.power, self.start);
-        self.sums.cycles().saturating_mul(level)
+        self.held_at_start(self.sums.cycles())
+    }
+
+    /// The energy of so many cycles at the starting level.
+    pub fn held_at_start(&self, cycles: u128) -> u128 {
+        cycles.saturating_mul(energy_at(self.power, self.start))
     }
 
     /// What the runs do at the other edge of the branch of a mark.

@@ -16,6 +16,10 @@ const SEEDS: usize = 2;
 /// What one mark more has to save, in thousandths of the energy at the starting level.
 const GAIN: u128 = 10;
 
+/// What a set has to save on the inputs to be proposed where some run may lose with it, in thousandths of the energy at the starting level. What saves less
+/// there often takes more on other inputs.
+const WORTH_RISK: u128 = 40;
+
 /// The one that takes less, and the first where they take the same.
 fn better(one: Priced, other: Priced) -> Priced {
     if other.energy < one.energy {
@@ -140,9 +144,19 @@ fn has_set(sets: &[Priced], set: &MarkSet) -> bool {
     false
 }
 
+/// Whether a set saves enough to be proposed, in all and on the inputs.
+fn is_worth_it(search: &Search<'_>, priced: &Priced) -> bool {
+    let least = if search.is_harmless(priced) {
+        GAIN
+    } else {
+        WORTH_RISK
+    };
+    search.saves(priced.energy, search.held, GAIN) && search.saves_on_inputs(priced, least)
+}
+
 /// Appends a set that saves enough and isn't there yet.
 fn offer(search: &Search<'_>, sets: &mut Vec<Priced>, other: Priced) -> Result<(), NoMemory> {
-    if search.saves(other.energy, search.held, GAIN) && !has_set(sets, &other.set) {
+    if is_worth_it(search, &other) && !has_set(sets, &other.set) {
         sets.push(other)?;
     }
     Ok(())

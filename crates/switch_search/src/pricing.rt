@@ -16,8 +16,9 @@ struct Event {
     again: bool,
 }
 
-/// What the search knows: the files, the machine, the program, the candidates, the runs, the cycles of the shortest run on an input, the starting level and
-/// the energy of the runs there; and which sets it has priced, and how many more it may.
+/// What the search knows: the files, the machine, the program, the candidates, the runs, the cycles of the shortest run on an input and of the shortest of
+/// all, the starting level, the energy of the runs there, by their weights, and that of the runs on inputs, without weights; and which sets it has priced, and
+/// how many more it may.
 #[derive(Drop)]
 pub struct Search<'a> {
     pub alloc: Global,
@@ -27,8 +28,10 @@ pub struct Search<'a> {
     pub places: Places<'a>,
     pub runs: &'a [RunMarks],
     pub shortest: u64,
+    pub least: u64,
     pub start: u8,
     pub held: u128,
+    pub held_inputs: u128,
     pub known: Vec<Priced>,
     pub tries: usize,
 }
@@ -43,6 +46,26 @@ pub fn shortest_of(runs: &[RunMarks]) -> u64 {
         }
     }
     shortest.unwrap_or(0)
+}
+
+/// The cycles of the shortest of some runs, walks among them; none where there are none.
+pub fn least_of(runs: &[RunMarks]) -> u64 {
+    let mut least: Option<u64> = None;
+    for marks in runs {
+        least = Some(marks.run.cycles.min(least.unwrap_or(u64::MAX)));
+    }
+    least.unwrap_or(0)
+}
+
+/// The cycles of the runs on inputs.
+pub fn input_cycles(runs: &[RunMarks]) -> u128 {
+    let mut cycles: u128 = 0;
+    for marks in runs {
+        if marks.run.is_input {
+            cycles = cycles.saturating_add(u128::from(marks.run.cycles));
+        }
+    }
+    cycles
 }
 
 /// Whether each mark of a set can lower a level.
@@ -94,6 +117,32 @@ impl Event {
             self.entries[usize::from(once)]
         } else {
             once
+        }
+    }
+}
+
+/// What runs take: all of them, by their weights, and those on inputs, without weights.
+#[derive(Clone, Copy)]
+struct Energies {
+    all: u128,
+    inputs: u128,
+}
+
+impl Energies {
+    /// More than any runs take.
+    fn out() -> Energies {
+        Energies {
+            all: u128::MAX,
+            inputs: u128::MAX,
+        }
+    }
+
+    /// Adds what a run takes.
+    fn add(&mut self, run: &RunMarks, energy: u128) {
+        let weighed = energy.saturating_mul(u128::from(run.run.weight));
+        self.all = self.all.saturating_add(weighed);
+        if run.run.is_input {
+            self.inputs = self.inputs.saturating_add(energy);
         }
     }
 }
@@ -210,28 +259,42 @@ impl<'a> Search<'a> {
         u128::from(cycles).saturating_mul(energy_at(self.power, self.start))
     }
 
-    /// The energy of the runs with the stubs of a set, by their weights: more than any takes where that of one is out.
-    fn runs_energy(&self, set: &MarkSet, acts: &Acts) -> Result<u128, NoMemory> {
-        let mut energy: u128 = 0;
+    /// What the runs take with the stubs of a set: more than any where that of one is out.
+    fn energies(&self, set: &MarkSet, acts: &Acts) -> Result<Energies, NoMemory> {
+        let mut energies = Energies { all: 0, inputs: 0 };
         for run in self.runs {
             let own = self.run_energy(set, acts, run)?;
             if self.wastes(set, run, own) || self.loses(run, own) {
-                return Ok(u128::MAX);
+                return Ok(Energies::out());
             }
-            energy = energy.saturating_add(own.saturating_mul(u128::from(run.run.weight)));
+            energies.add(run, own);
         }
-        Ok(energy)
+        Ok(energies)
     }
 
-    /// The energy of the runs with a set: more than any takes where it is refused, adds too much to the worst case, or has a mark that can
-    /// lower nothing.
-    fn energy_of(&self, set: &MarkSet) -> Result<u128, NoMemory> {
+    /// The cycles that stubs add at most, where the runs begin at the same level with them: more than any where they don't.
+    fn most_added(&self, acts: &Acts) -> u64 {
+        if acts.start == self.start {
+            acts.added
+        } else {
+            u64::MAX
+        }
+    }
+
+    /// A set with the energy of the runs: out where it is refused, adds too much to the worst case, or has a mark that can lower nothing.
+    fn price_of(&self, set: &MarkSet) -> Result<Priced, NoMemory> {
         match self.places.acts(self.alloc, &self.files, set)? {
             Some(acts)
                 if !are_dear(acts.added, self.places.numbers.worst) && are_useful(set, &acts) => {
-                self.runs_energy(set, &acts)
+                let energies = self.energies(set, &acts)?;
+                Ok(Priced {
+                    set: *set,
+                    energy: energies.all,
+                    inputs: energies.inputs,
+                    added: self.most_added(&acts),
+                })
             }
-            _ => Ok(u128::MAX),
+            _ => Ok(Priced::out(*set)),
         }
     }
 
@@ -259,28 +322,44 @@ impl<'a> Search<'a> {
             return Ok(priced);
         }
         if self.known.len() >= self.tries {
-            return Ok(Priced {
-                set,
-                energy: u128::MAX,
-            });
+            return Ok(Priced::out(set));
         }
-        let energy = self.energy_of(&set)?;
-        let priced = Priced { set, energy };
+        let priced = self.price_of(&set)?;
         self.known.push(priced)?;
         Ok(priced)
+    }
+
+    /// Whether no run that is as long as the shortest one loses much with a set: all its stubs add few cycles, whatever the run does. What a run
+    /// takes more than at one level is at most what they take.
+    pub fn is_harmless(&self, priced: &Priced) -> bool {
+        let added = u128::from(priced.added);
+        added.saturating_mul(1000) <= u128::from(self.least).saturating_mul(HARMLESS)
     }
 
     /// Whether one energy is less than another by so many thousandths of that at the starting level.
     pub fn saves(&self, less: u128, than: u128, thousandths: u128) -> bool {
         less < than && (than - less).saturating_mul(1000) >= self.held.saturating_mul(thousandths)
     }
+
+    /// Whether the runs on inputs take less with a set by so many thousandths of what they take at the starting level; all runs, where none is on an input.
+    pub fn saves_on_inputs(&self, priced: &Priced, thousandths: u128) -> bool {
+        let held = self.held_inputs;
+        if held == 0 {
+            return self.saves(priced.energy, self.held, thousandths);
+        }
+        let saved = held.saturating_sub(priced.inputs);
+        saved.saturating_mul(1000) >= held.saturating_mul(thousandths)
+    }
 }
 
 /// How many thousandths of its cycles the stubs of a run may take where they save nothing.
 const FEW: u128 = 18;
 
+/// How many thousandths of the cycles of the shortest run the stubs of a set may add at most where no run loses much with it.
+const HARMLESS: u128 = 10;
+
 /// How many thousandths more a run may take with the stubs of a set than without.
-const MOST_LOST: u128 = 30;
+const MOST_LOST: u128 = 20;
 
 /// So many cycles at the starting level may be lost in any run: about what one stub takes that is passed once.
 const ONCE: u64 = 16;

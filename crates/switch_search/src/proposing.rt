@@ -6,7 +6,7 @@ use crate::building::{Files, Places};
 use crate::candidates::{Known, MOST, loops_of};
 use crate::counted::add_counted;
 use crate::growing::best_sets;
-use crate::pricing::{Search, shortest_of};
+use crate::pricing::{Search, input_cycles, least_of, shortest_of};
 use crate::sets::Priced;
 use code_graph::build_graph;
 use flow_graph::CodeGraph;
@@ -144,8 +144,10 @@ fn searched(
         places: marked.places,
         runs: marked.runs,
         shortest: shortest_of(marked.runs),
+        least: least_of(marked.runs),
         start: known.start,
         held: known.held_energy(),
+        held_inputs: known.held_at_start(input_cycles(marked.runs)),
         known: Vec::new(alloc),
         tries: effort.tries,
     };
@@ -259,9 +261,11 @@ fn search_files<P: Progress>(
 /// them with no other loop counted; and where some input counts and some loop is noted as counted, two that count these loops, alone and with the
 /// switches of the first proposal, where that adds few cycles to the worst case. None of their marks is one that can lower nothing, and there are fewer where the
 /// runs are long, since each is run on all inputs.
-/// None are given where the files are refused, or where nothing promises to save at least one percent of what the runs take at one level.
-/// Of edges and tallied loops none is given with which one of the runs below takes over 3 percent more than at one level; of a run that is shorter than a tenth of
-/// the shortest one on an input, over 3 percent of what a run of that length takes.
+/// None are given where the files are refused, and of edges and tallied loops none that doesn't promise to save at least one percent of what the runs take at one
+/// level, and four percent of what those on inputs take there; of these, one percent is enough where it adds at most one percent of the cycles of the shortest run
+/// to any run.
+/// Of edges and tallied loops none is given with which one of the runs below takes over 2 percent more than at one level; of a run that is shorter than a tenth of
+/// the shortest one on an input, over 2 percent of what a run of that length takes.
 ///
 /// With each input comes how many cycles the run of the original on it takes, where the input counts.
 /// The choice is by the runs of the original on the inputs that count, on some of them where these are long, and by some random walks of its graph that

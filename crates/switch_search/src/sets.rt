@@ -56,9 +56,24 @@ impl MarkSet {
     }
 }
 
-/// A set and the energy of the runs with it, by their weights.
+/// A set, the energy of the runs with it, by their weights, that of the runs on inputs, without weights, and the cycles that its stubs add at most to a run
+/// that begins at the same level with them.
 #[derive(Clone, Copy)]
 pub struct Priced {
     pub set: MarkSet,
     pub energy: u128,
+    pub inputs: u128,
+    pub added: u64,
+}
+
+impl Priced {
+    /// One that is out: it takes more than any.
+    pub fn out(set: MarkSet) -> Priced {
+        Priced {
+            set,
+            energy: u128::MAX,
+            inputs: u128::MAX,
+            added: u64::MAX,
+        }
+    }
 }
