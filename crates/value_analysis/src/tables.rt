@@ -38,6 +38,7 @@ impl Tables {
                 spared: Vec::new(alloc),
                 cells: Vec::new(alloc),
                 told: Vec::new(alloc),
+                areas: Vec::new(alloc),
             },
         }
     }
