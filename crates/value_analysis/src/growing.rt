@@ -4,7 +4,7 @@ ghost use Rattle.std.specs.Prelude.{◌<◌};
 
 use crate::apart::raised;
 use crate::arcs::holds;
-use crate::areas::{Limits, access_of, areas_of};
+use crate::areas::{access_of, areas_of};
 use crate::calls::{CallSite, Callee, come_back, enter};
 use crate::cells::Cells;
 use crate::forms::Forms;
@@ -558,22 +558,39 @@ impl<'a> Growth<'a> {
         self.note_truth(&node, k)
     }
 
-    // Takes numbers up to which a register may go as thresholds, of the register and of the word from which its value comes.
-    fn note_limits(
+    // Takes a number up to which a register may go as a threshold, of the register and of the word from which its value comes.
+    fn note_limit(
         &mut self,
         f: usize,
         register: u8,
         name: Option<Name>,
-        limits: Limits,
+        limit: u32,
     ) -> Result<(), NoMemory> {
         if f >= self.thresholds.len() {
             return Ok(());
         }
         let thresholds = &mut self.thresholds[f];
-        for limit in [limits.below, limits.behind] {
-            add_limit(thresholds, register, limit)?;
-            if let Some(Name::OfWord(k, more)) = name {
-                add_limit(thresholds, word_key(k as usize), limit.wrapping_sub(more))?;
+        add_limit(thresholds, register, limit)?;
+        match name {
+            Some(Name::OfWord(k, more)) => {
+                add_limit(thresholds, word_key(k as usize), limit.wrapping_sub(more))
+            }
+            _ => Ok(()),
+        }
+    }
+
+    // Takes what a line of a register and another one, which may go up to a number, says of the register as a threshold.
+    fn note_solved(&mut self, k: usize, f: usize, other: u8, limit: u32) -> Result<(), NoMemory> {
+        let Some(facts) = self.facts.get(k) else {
+            return Ok(());
+        };
+        if f >= self.thresholds.len() {
+            return Ok(());
+        }
+        let thresholds = &mut self.thresholds[f];
+        for line in &facts.lines {
+            if let Some((r, word)) = self.forms.solved(line, other, limit) {
+                add_limit(thresholds, r, word)?;
             }
         }
         Ok(())
@@ -589,10 +606,14 @@ impl<'a> Growth<'a> {
         };
         let register = access.register;
         let name = name_of(&facts.names, register);
-        match access.limits(&self.areas, &facts.row) {
-            Some(limits) => self.note_limits(node.function, register, name, limits),
-            None => Ok(()),
+        let Some(limits) = access.limits(&self.areas, &facts.row) else {
+            return Ok(());
+        };
+        for limit in [limits.below, limits.behind] {
+            self.note_limit(node.function, register, name, limit)?;
+            self.note_solved(k, node.function, register, limit)?;
         }
+        Ok(())
     }
 
     // Looks at the ways of a node.
