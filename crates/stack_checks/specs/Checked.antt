@@ -1,20 +1,24 @@
 -- Scaffold: what the code confirms of stacks: register by register, word by word, line by line and edge by edge.
 use Rattle.std.specs.Prelude.{◌≡◌, ℕ, ℤ, ◌<◌, ◌⊎◌, true, List, length, slice_get, Option, Some, None}
+use Rattle.std.specs.List.{All}
 use Rattle.scale_base.specs.declared.instruction.ImmOp.TheVariants.{Addi}
 use Rattle.scale_base.specs.declared.instruction.RegOp.TheVariants.{Add}
 use Rattle.scale_base.specs.declared.instruction.Instr.TheVariants.{Imm, Reg}
 use Rattle.scale_base.specs.declared.instruction.Instr.{Instr}
 use Rattle.scale_base.specs.Arith.{unsigned}
 use Rattle.scale_base.specs.Run.{STACK_POINTER}
+use Rattle.scale_base.specs.declared.ranges.Span.{Span}
+use Rattle.scale_base.specs.Spans.{in_span}
 use Rattle.cost_theory.specs.Graph.{Graph}
 use Rattle.code_text.specs.Text.{Text, instr_at}
 use Rattle.bound_laws.specs.Registers.{Measure, keeps, measured}
 use Rattle.bound_laws.specs.Laws.{starting_registers}
-use Rattle.bound_laws.specs.Values.{Arc, Values, AreIn, Covers, IsCovered, IsHeld, IsLineCovered, IsRegister, IsSolved, held, line_of, meet_of, passed}
+use Rattle.bound_laws.specs.Values.{Arc, Values, AreIn, Covers, IsCovered, IsHeld, IsIn, IsLineCovered, IsRegister, IsSolved, held, line_of, meet_of, passed}
 use Rattle.stack_laws.specs.Making.{IsLineMade, IsSide, IsSubtracted, IsSumBy}
 use Rattle.stack_laws.specs.Stacks.Name.{of_begin}
 use Rattle.stack_laws.specs.Stacks.{Stacks, name_span, IsBeginning, IsCoveredOver, IsLoadedTo, IsMissed, IsNamedOver, IsSpannedOver, IsStoredFrom, IsWordCovered, IsWordNamed, IsWordSpanned, ArePassed, IsPassed, IsCellKept, IsDescending, IsRestored, IsSafe, IsSparing, IsRegisterBack, IsNameBack, IsSpanBack, IsSumBack, IsWordBack, IsWordNameBack, IsWordSpanBack, AreEntered, AreBack, IsReturned}
 use Rattle.stack_laws.specs.Cells.{IsLoadedFrom}
+use Rattle.stack_laws.specs.Areas.{AreDisjoint, IsAccessedIn}
 use Rattle.stack_laws.specs.Telling as telling
 use Rattle.stack_tables.specs.declared.tables.Cell.{Cell}
 use Rattle.stack_tables.specs.declared.tables.Told.{Told}
@@ -156,6 +160,16 @@ pub record IsSomeTeller (x : Way) (row : List Told) (r : ℕ) : Type 0 where
   pub found_is : slice_get row number ≡ Some found
   pub of : IsTellerOf x r found
 
+-- what an interval and an area have in common is in another interval
+abbrev pub IsCutOf : Option Arc → Arc → Arc → Type 0
+IsCutOf i to area = AreDisjoint i area ⊎ Covers (Some to) (meet_of (Some area) i)
+
+abbrev pub AreCutTo : List Arc → Option Arc → Arc → Type 0
+AreCutTo areas i to = All (IsCutOf i to) areas
+
+abbrev pub IsAccessedAlong : Way → ℕ → ℕ → Arc → Type 0
+IsAccessedAlong x r more place = IsAccessedIn (values_along x) (stacks_along x).areas x.instr (from x) r more place
+
 abbrev pub IsNamedAlong : Way → ℕ → Type 0
 IsNamedAlong x r = IsNamedOver (values_along x) (stacks_along x) x.instr (from x) (to x) r
 
@@ -212,6 +226,13 @@ pub record IsLineBehind (x : Way) (h j : ℕ) : Type 0 where
 
 abbrev pub IsLineStarted : Values → ℕ → ℕ → Type 0
 IsLineStarted v a j = IsHeld (v.lines a j) (measured (v.forms j) starting_registers)
+
+-- each address of a span is in one of the areas
+abbrev pub IsInSome : List Arc → ℕ → Type 0
+IsInSome areas at = (k : ℕ) × (x : Arc) × (slice_get areas k ≡ Some x) × IsIn x at
+
+pub record IsSpanIn (areas : List Arc) (s : Span) : Type 0 where
+  pub within : (at : ℕ) → in_span s at ≡ true → IsInSome areas at
 
 -- ---- edges
 

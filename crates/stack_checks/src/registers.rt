@@ -10,6 +10,7 @@ ghost use Rattle.stack_tables.specs.Tables.{IsStackClaim, address, named, stacks
 ghost use Rattle.stack_checks.specs.declared.origins.Origin.TheVariants.{Sum};
 ghost use Rattle.stack_checks.specs.Checked.{IsCoveredAlong, IsNamedAlong, IsOriginOf, IsRegisterPassed, IsSpannedAlong, IsWay, from, stacks_along, to, values_along};
 
+use crate::accesses::is_covered_by_access;
 use crate::cells::is_cell_loaded;
 use crate::lines::is_solved;
 use crate::made::is_subtracted;
@@ -17,10 +18,10 @@ use crate::origins::{Origin, origin_of};
 use crate::telling::is_told_to;
 use crate::ways::{Way, arc_before, arc_behind, passed_on};
 use stack_tables::{
-    Name, StackClaim, arc_at, held_at, is_same_name, is_steady, known_sum, known_sums, more_of,
-    name, name_arc, name_of, name_span, span, span_of, stored_from, word,
+    Name, StackClaim, arc_at, begins, held_at, is_same_name, is_steady, known_sum, known_sums,
+    more_of, name, name_arc, name_of, name_span, span, span_of, stored_from, word,
 };
-use wrapped_intervals::{Arc, covers, keeps};
+use wrapped_intervals::{Arc, covers, keeps, opposite_of, sum_with};
 
 // Whether a register's interval holds what the instruction leaves in it.
 fn is_covered(way: &Way<'_>, r: u8) -> bool
@@ -45,7 +46,8 @@ pub fn is_covered_by_name(claim: &StackClaim<'_>, n: usize, r: u8) -> bool
     covers(arc_at(claim, n, r), name_arc(claim, n, name(claim, n, r)))
 }
 
-// Whether one of both does, or a line of the difference that the instruction writes, or a cell that it loads, or what another one tells.
+// Whether one of both does, or a line of the difference that the instruction writes, or a cell that it loads, or what another one tells, or
+// where the access through it may be.
 fn is_covered_over(way: &Way<'_>, r: u8) -> bool
     requires way { IsWay way.now }
     requires register { r < 32 }
@@ -64,7 +66,10 @@ fn is_covered_over(way: &Way<'_>, r: u8) -> bool
     if is_cell_loaded(way, r) {
         return true;
     }
-    is_told_to(way, r)
+    if is_told_to(way, r) {
+        return true;
+    }
+    is_covered_by_access(way, r)
 }
 
 // ---- names
@@ -312,6 +317,40 @@ fn is_span_by_origin(way: &Way<'_>, r: u8) -> bool
     }
 }
 
+// Whether a register's span where the way leads holds its interval there less one number.
+fn is_span_of_interval(way: &Way<'_>, r: u8, begun: u64) -> bool
+    requires way { IsWay way.now }
+    requires register { r < 32 }
+    ensures known { result ≡ true → is_some ((values_along way.now).at (to way.now) r) ≡ true }
+    ensures covers { result ≡ true → values.Covers ((stacks_along way.now).span (to way.now) r)
+        (values.sum_with ((values_along way.now).at (to way.now) r) (values.opposite_of begun)) }
+{
+    let interval = arc_behind(way, r);
+    interval.is_some()
+        && covers(
+            span(way.claim, way.to, r),
+            sum_with(interval, opposite_of(begun)),
+        )
+}
+
+// Whether it holds its interval less what x2 had when the function began, where that is one number.
+fn is_span_by_interval(way: &Way<'_>, r: u8) -> bool
+    requires way { IsWay way.now }
+    requires register { r < 32 }
+    ensures { result ≡ true → stacks.IsSpannedByInterval (values_along way.now) (stacks_along way.now) (to way.now) r }
+{
+    match begins(way.claim, way.to) {
+        Some(begun) => {
+            if begun.more() == 0 {
+                is_span_of_interval(way, r, begun.low())
+            } else {
+                false
+            }
+        }
+        None => false,
+    }
+}
+
 // Whether a register points as what the instruction leaves in it.
 fn is_spanned_over(way: &Way<'_>, r: u8) -> bool
     requires way { IsWay way.now }
@@ -321,7 +360,10 @@ fn is_spanned_over(way: &Way<'_>, r: u8) -> bool
     if is_spanned_by_name(way.claim, way.to, r) {
         return true;
     }
-    is_span_by_origin(way, r)
+    if is_span_by_origin(way, r) {
+        return true;
+    }
+    is_span_by_interval(way, r)
 }
 
 // ---- all

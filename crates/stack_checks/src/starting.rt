@@ -11,6 +11,7 @@ ghost use Rattle.stack_checks.specs.Checked.{IsStart};
 ghost use Rattle.stack_tables.specs.Tables.{IsStackClaim, address, stacks_in, stacks_of, values_in};
 ghost use Rattle.value_checks.specs.Tables.{values_of};
 
+use crate::areas::are_areas;
 use crate::confirming::is_confirmed;
 use crate::edges::{is_alive, is_beginning};
 use crate::lines::are_lines_started;
@@ -110,6 +111,9 @@ pub fn is_stack_analysed(claim: &StackClaim<'_>) -> bool
         return false;
     }
     if !is_started(claim) {
+        return false;
+    }
+    if !are_areas(claim) {
         return false;
     }
     if !are_cells_started(claim) {

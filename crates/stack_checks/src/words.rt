@@ -2,12 +2,16 @@
 
 ghost use Rattle.std.specs.Prelude.{◌≡◌, ◌<◌, ℕ, length, IfSome, Some, None, true};
 ghost use Rattle.bound_laws.specs.Values as values;
+ghost use Rattle.bound_laws.specs.Values.{IsRegister};
+ghost use Rattle.stack_laws.specs.Areas.{IsAccess};
 ghost use Rattle.stack_laws.specs.Stacks as stacks;
 ghost use Rattle.stack_laws.specs.Stacks.Name.{of_word};
+ghost use Rattle.wrapped_intervals.specs.Small.{IsKept};
 ghost use Rattle.stack_tables.specs.Tables.{IsStackClaim, IsUnknown, address, named, stacks_in};
 ghost use Rattle.stack_checks.specs.declared.origins.Source.TheVariants.{Missed};
 ghost use Rattle.stack_checks.specs.Checked.{IsSourceOf, IsWay, IsWordAlong, IsWordBehind, IsWordNamedAlong, IsWordPassed, IsWordSpannedAlong, from, passed_along, stacks_along, to, values_along};
 
+use crate::accesses::{access_of, accessed_in};
 use crate::origins::{Source, source_of};
 use crate::ways::{Way, is_left, passed_on};
 use scale_base::Instr;
@@ -15,7 +19,7 @@ use stack_tables::{
     Name, StackClaim, held_at, is_name_safe, is_safe, is_same_name, is_steady, name, name_of,
     name_span, span_of, word, word_count,
 };
-use wrapped_intervals::{covers, opposite_of, sum_with, word as any_word};
+use wrapped_intervals::{Arc, covers, opposite_of, sum_with, word as any_word};
 
 // Whether a word's interval holds each word.
 fn is_any(way: &Way<'_>, j: u32) -> bool
@@ -128,7 +132,67 @@ fn compared(i: Instr) -> (u8, u8) {
     }
 }
 
-// Whether a word that is missed keeps its interval, or has what a branch says.
+// Whether a word's interval holds what is so far below an access's addresses.
+fn is_access_below(way: &Way<'_>, j: u32, place: Arc, more: u32) -> bool
+    requires way { IsWay way.now }
+    requires place { IsKept place }
+    ensures { result ≡ true → values.Covers ((stacks_along way.now).word (to way.now) j)
+        (values.sum_with (Some place) (values.opposite_of more)) }
+{
+    covers(
+        word(way.claim, way.to, j).arc,
+        sum_with(Some(place), opposite_of(u64::from(more))),
+    )
+}
+
+// The same of the access through a register that is so much more than the word, so far from what that holds.
+fn is_accessed_by(way: &Way<'_>, j: u32, r: u8, more: u32, further: u32) -> bool
+    requires way { IsWay way.now }
+    requires register { IsRegister r }
+    requires named { (stacks_along way.now).name (from way.now) r ≡ Some (of_word j more) }
+    requires access { IsAccess way.now.instr r further }
+    requires missed { IsSourceOf way.now j Missed }
+    ensures { result ≡ true → IsWordAlong way.now j }
+{
+    match accessed_in(way, r, further) {
+        Some(place) => is_access_below(way, j, place, further.wrapping_add(more)),
+        None => false,
+    }
+}
+
+// The same, where it has the word's name.
+fn is_accessed_at(way: &Way<'_>, j: u32, r: u8, further: u32) -> bool
+    requires way { IsWay way.now }
+    requires register { IsRegister r }
+    requires access { IsAccess way.now.instr r further }
+    requires missed { IsSourceOf way.now j Missed }
+    ensures { result ≡ true → IsWordAlong way.now j }
+{
+    match more_than(way, j, r) {
+        Some(more) => is_accessed_by(way, j, r, more, further),
+        None => false,
+    }
+}
+
+// Whether it holds what the instruction's access says, if it loads or stores.
+fn is_accessed(way: &Way<'_>, j: u32) -> bool
+    requires way { IsWay way.now }
+    requires missed { IsSourceOf way.now j Missed }
+    ensures { result ≡ true → IsWordAlong way.now j }
+{
+    match access_of(way.instr) {
+        Some((r, further)) => {
+            if 0 < r && r < 32 {
+                is_accessed_at(way, j, r, further)
+            } else {
+                false
+            }
+        }
+        None => false,
+    }
+}
+
+// Whether a word that is missed keeps its interval, or has what a branch says, or an access.
 fn is_missed_covered(way: &Way<'_>, j: u32) -> bool
     requires way { IsWay way.now }
     requires missed { IsSourceOf way.now j Missed }
@@ -138,7 +202,7 @@ fn is_missed_covered(way: &Way<'_>, j: u32) -> bool
         return true;
     }
     let registers = compared(way.instr);
-    is_tied(way, j, registers.0) || is_tied(way, j, registers.1)
+    is_tied(way, j, registers.0) || is_tied(way, j, registers.1) || is_accessed(way, j)
 }
 
 // Whether a word's interval holds what the instruction leaves there, by where that comes from.

@@ -111,6 +111,10 @@ pub cells_seen : (c : StackClaim) (j : ℕ) → option_map cell_view (slice_get 
 unfolding stacks_in
 cells_seen c j = refl
 
+pub areas_seen : (c : StackClaim) (k : ℕ) → slice_get c.stack.now.areas.items k ≡ (stacks_in c).areas k
+unfolding stacks_in
+areas_seen c k = refl
+
 told_length : (rows : List (Vec Told Global)) → length (told_rows rows) ≡ length rows
 told_length rows = length-map rows (λ (row : Vec Told Global). row.items)
 

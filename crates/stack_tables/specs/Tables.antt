@@ -86,6 +86,7 @@ stacks_of code stack = record {
   spared = λ k a. beside false code.nodes stack.spared.items a;
   cell = λ j. option_map cell_view (slice_get stack.cells.items j);
   told = λ a j. told_in (told_at code stack a) j;
+  areas = λ k. slice_get stack.areas.items k;
 }
 
 -- the intervals of a word are short enough to be kept
@@ -134,6 +135,8 @@ pub record AreStacksSized (code : Code) (stack : StackTable) : Type 0 where
   pub cells_kept : All HasKeptValues stack.cells.items
   pub told : length stack.told.items ≡ length code.nodes
   pub told_kept : All IsToldRow stack.told.items
+  pub areas_few : length stack.areas.items ≤ 64
+  pub areas_kept : All IsKept stack.areas.items
 
 -- two tables with their numbers for a program
 pub record IsStackClaim (c : StackClaim) : Type 0 where

@@ -7,7 +7,7 @@ ghost use Rattle.scale_base.specs.Image.{image_of};
 ghost use Rattle.code_text.specs.Text as text;
 ghost use Rattle.code_text.specs.Text.{text_of};
 ghost use Rattle.stack_laws.specs.Stacks as stacks;
-ghost use Rattle.wrapped_intervals.specs.Small.{IsKeptOr, measure_view, row};
+ghost use Rattle.wrapped_intervals.specs.Small.{IsKept, IsKeptOr, measure_view, row};
 ghost use Rattle.value_checks.specs.Tables.{line_in, IsForm, IsLineKept};
 ghost use Rattle.stack_tables.specs.Tables.{HasKeptValues, IsStackClaim, IsToldKept, IsUnknown, IsWordKept, address, cell_view, named, stacks_in, text_in, told_in, values_in};
 
@@ -229,6 +229,16 @@ pub fn cells<'a>(claim: &StackClaim<'a>) -> &'a [Cell]
     ensures kept { All HasKeptValues result.now }
 {
     &claim.stack.cells
+}
+
+/// The intervals of addresses that hold all that may be loaded from or stored to.
+pub fn areas<'a>(claim: &StackClaim<'a>) -> &'a [Arc]
+    requires { IsStackClaim claim.now }
+    ensures areas { (k : ℕ) → slice_get result.now k ≡ (stacks_in claim.now).areas k }
+    ensures few { length result.now ≤ 64 }
+    ensures kept { All IsKept result.now }
+{
+    &claim.stack.areas
 }
 
 /// What registers tell of others at node k.

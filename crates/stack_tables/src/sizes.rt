@@ -2,14 +2,14 @@
 
 ghost use Rattle.std.specs.Prelude.{◌≡◌, true};
 ghost use Rattle.std.specs.List.{All};
-ghost use Rattle.wrapped_intervals.specs.Small.{IsKeptOr};
+ghost use Rattle.wrapped_intervals.specs.Small.{IsKept, IsKeptOr};
 ghost use Rattle.stack_tables.specs.Tables.{AreStacksSized, HasKeptValues, IsRowOf, IsRowOfTold, IsRowOfWords, IsToldKept, IsToldRow, IsWordKept};
 
 use crate::stores::MOST_WORDS;
-use crate::tables::{Cell, MOST_CELLS, MOST_TOLD, StackTable, Told, Word};
+use crate::tables::{Cell, MOST_AREAS, MOST_CELLS, MOST_TOLD, StackTable, Told, Word};
 use flow_graph::CodeGraph;
 use value_checks::{are_arcs_kept, are_rows_kept};
-use wrapped_intervals::is_kept;
+use wrapped_intervals::{Arc, is_kept};
 
 // Whether the intervals of a word are.
 fn is_word_kept(word: Word) -> bool
@@ -55,6 +55,18 @@ fn are_cells_kept(cells: &[Cell]) -> bool
 {
     for cell in cells {
         if !is_kept(Some(cell.values)) {
+            return false;
+        }
+    }
+    true
+}
+
+// Whether intervals of addresses are.
+fn are_areas_kept(areas: &[Arc]) -> bool
+    ensures { result ≡ true → All IsKept areas.now }
+{
+    for area in areas {
+        if !is_kept(Some(*area)) {
             return false;
         }
     }
@@ -111,6 +123,7 @@ fn are_all_kept(stack: &StackTable) -> bool
     ensures place { result ≡ true → IsKeptOr stack.now.place }
     ensures cells { result ≡ true → All HasKeptValues stack.now.cells.items }
     ensures told { result ≡ true → All IsToldRow stack.now.told.items }
+    ensures areas { result ≡ true → All IsKept stack.now.areas.items }
 {
     are_rows_kept(&stack.spans)
         && are_rows_of_words(&stack.words)
@@ -118,10 +131,11 @@ fn are_all_kept(stack: &StackTable) -> bool
         && is_kept(stack.place)
         && are_cells_kept(&stack.cells)
         && are_rows_of_told(&stack.told)
+        && are_areas_kept(&stack.areas)
 }
 
 /// Whether a table has a row for each node and each function of a graph, with intervals that are kept, rows of at most so many words
-/// and of at most so much that is told, and at most so many numbers in memory.
+/// and of at most so much that is told, and at most so many numbers in memory and intervals of addresses.
 pub fn is_stack_sized(graph: &CodeGraph, stack: &StackTable) -> bool
     ensures { result ≡ true → AreStacksSized graph.now.code stack.now }
 {
@@ -135,5 +149,6 @@ pub fn is_stack_sized(graph: &CodeGraph, stack: &StackTable) -> bool
         && stack.restored.len() == functions
         && stack.cells.len() <= MOST_CELLS
         && stack.told.len() == nodes
+        && stack.areas.len() <= MOST_AREAS
         && are_all_kept(stack)
 }

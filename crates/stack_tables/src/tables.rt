@@ -41,11 +41,15 @@ pub struct Told {
 /// How many of them a node has at most.
 pub const MOST_TOLD: usize = 8;
 
+/// How many intervals of addresses a table has at most.
+pub const MOST_AREAS: usize = 64;
+
 /// By node and register, before its instruction, where the value comes from and how far above the function's first x2 it points; by node
 /// and number, the words of the function's stack, of which nothing is known behind the last; by function, what x2 has when it begins, and
 /// which registers are at its returns what they were then; where the words of functions that wait for a call may be; and by node, whether
 /// nothing is stored to those words from here on up to the function's return, in what is called neither. Wherever the run is, numbers in
-/// memory that are always in an interval. And by node, what registers tell of others.
+/// memory that are always in an interval. By node, what registers tell of others. And intervals of addresses that hold all that may be
+/// loaded from or stored to.
 #[derive(Drop)]
 pub struct StackTable {
     pub names: Vec<[Option<Name>; 32]>,
@@ -57,4 +61,5 @@ pub struct StackTable {
     pub spared: Vec<bool>,
     pub cells: Vec<Cell>,
     pub told: Vec<Vec<Told>>,
+    pub areas: Vec<Arc>,
 }

@@ -1,0 +1,185 @@
+//! Loads and stores: where they may be at all, since any other one traps, and what that says of a register through which they are and of a
+//! word of the stack.
+
+ghost use Rattle.std.specs.Prelude.{◌≡◌, ◌<◌, IfSome, Some, true};
+ghost use Rattle.std.specs.List.{All};
+ghost use Rattle.bound_laws.specs.Registers.{keeps};
+ghost use Rattle.bound_laws.specs.Values as values;
+ghost use Rattle.stack_laws.specs.Areas.{AreDisjoint, IsAccess, IsCoveredByAccess};
+ghost use Rattle.wrapped_intervals.specs.Small.{IsFound, IsFoundOr, IsKept, IsKeptOr};
+ghost use Rattle.stack_checks.specs.Checked.{AreCutTo, IsAccessedAlong, IsCutOf, IsWay, from, stacks_along, to, values_along};
+
+use crate::ways::{Way, arc_behind, is_left};
+use scale_base::Instr;
+use stack_tables::{areas, held_at};
+use wrapped_intervals::{Arc, ahead, covers, is_kept, meet_of, opposite_of, sum_with};
+
+// How many words there are.
+const WORDS: u64 = 4_294_967_296;
+
+/// The register through which an instruction loads or stores, and how far from what it holds, modulo 2^32.
+pub fn access_of(i: Instr) -> Option<(u8, u32)>
+    ensures { IfSome result (λ p. IsAccess i p.0 p.1) }
+{
+    match i {
+        Instr::Load {
+            op: _,
+            rd: _,
+            rs1,
+            offset,
+        } => Some((rs1, offset.cast_unsigned())),
+        Instr::Store {
+            op: _,
+            rs1,
+            rs2: _,
+            offset,
+        } => Some((rs1, offset.cast_unsigned())),
+        _ => None,
+    }
+}
+
+// ---- what an interval of addresses and the areas have in common
+
+// Whether an interval and an area have nothing in common.
+fn is_disjoint(i: Arc, area: Arc) -> bool
+    requires i { IsFound i }
+    requires area { IsKept area }
+    ensures { result ≡ true → AreDisjoint (Some i) area }
+{
+    let distance = ahead(i.low(), area.low());
+    i.more() < distance && distance + area.more() < WORDS
+}
+
+// What an interval and the first area that isn't disjoint from it have in common.
+fn first_common(areas: &[Arc], i: Arc) -> Option<Arc>
+    requires areas { All IsKept areas.now }
+    requires i { IsFound i }
+{
+    for area in areas {
+        if !is_disjoint(i, *area) {
+            return meet_of(Some(*area), Some(i));
+        }
+    }
+    None
+}
+
+// Whether an area has nothing in common with an interval, or no more than another interval holds.
+fn is_cut(area: Arc, i: Arc, to: Arc) -> bool
+    requires area { IsKept area }
+    requires i { IsFound i }
+    requires to { IsKept to }
+    ensures { result ≡ true → IsCutOf (Some i) to area }
+{
+    is_disjoint(i, area) || covers(Some(to), meet_of(Some(area), Some(i)))
+}
+
+// The same of each area.
+fn are_cut(areas: &[Arc], i: Arc, to: Arc) -> bool
+    requires areas { All IsKept areas.now }
+    requires i { IsFound i }
+    requires to { IsKept to }
+    ensures { result ≡ true → AreCutTo areas.now (Some i) to }
+{
+    for area in areas {
+        if !is_cut(*area, i, to) {
+            return false;
+        }
+    }
+    true
+}
+
+// An interval that holds what an interval and the areas have in common, where that is in one of them.
+fn cut(areas: &[Arc], i: Arc) -> Option<Arc>
+    requires areas { All IsKept areas.now }
+    requires i { IsFound i }
+    ensures cut { IfSome result (λ to. AreCutTo areas.now (Some i) to) }
+    ensures kept { IsKeptOr result }
+{
+    match first_common(areas, i) {
+        Some(to) => {
+            if is_kept(Some(to)) && are_cut(areas, i, to) {
+                Some(to)
+            } else {
+                None
+            }
+        }
+        None => None,
+    }
+}
+
+// The same of an interval that may be unknown.
+fn cut_of(areas: &[Arc], i: Option<Arc>) -> Option<Arc>
+    requires areas { All IsKept areas.now }
+    requires i { IsFoundOr i }
+    ensures cut { IfSome result (λ to. AreCutTo areas.now i to) }
+    ensures kept { IsKeptOr result }
+{
+    match i {
+        Some(i) => cut(areas, i),
+        None => None,
+    }
+}
+
+/// The interval of the addresses that an access through register r may have, so far from what it holds.
+pub fn accessed_in(way: &Way<'_>, r: u8, more: u32) -> Option<Arc>
+    requires way { IsWay way.now }
+    requires access { IsAccess way.now.instr r more }
+    ensures place { IfSome result (λ place. IsAccessedAlong way.now r more place) }
+    ensures kept { IsKeptOr result }
+{
+    let held = held_at(way.claim, way.from, r);
+    if held.is_none() {
+        return None;
+    }
+    cut_of(areas(way.claim), sum_with(held, u64::from(more)))
+}
+
+// ---- registers
+
+// Whether a register's interval where the way leads holds what is so far below the addresses.
+fn is_access_below(way: &Way<'_>, r: u8, more: u32, place: Arc) -> bool
+    requires way { IsWay way.now }
+    requires register { r < 32 }
+    requires place { IsKept place }
+    ensures { result ≡ true → values.Covers ((values_along way.now).at (to way.now) r) (values.sum_with (Some place)
+        (values.opposite_of more)) }
+{
+    covers(
+        arc_behind(way, r),
+        sum_with(Some(place), opposite_of(u64::from(more))),
+    )
+}
+
+// Whether it holds what the access through it says, by how far the access is from what it holds.
+fn is_covered_at(way: &Way<'_>, r: u8, more: u32) -> bool
+    requires way { IsWay way.now }
+    requires register { r < 32 }
+    requires left { keeps r way.now.instr ≡ true }
+    requires access { IsAccess way.now.instr r more }
+    ensures { result ≡ true → IsCoveredByAccess (values_along way.now) (stacks_along way.now).areas way.now.instr (from way.now)
+        (to way.now) r }
+{
+    match accessed_in(way, r, more) {
+        Some(place) => is_access_below(way, r, more, place),
+        None => false,
+    }
+}
+
+/// Whether a register's interval where the way leads holds what an access through it says, which leaves it as it is.
+pub fn is_covered_by_access(way: &Way<'_>, r: u8) -> bool
+    requires way { IsWay way.now }
+    requires register { r < 32 }
+    ensures { result ≡ true → IsCoveredByAccess (values_along way.now) (stacks_along way.now).areas way.now.instr (from way.now)
+        (to way.now) r }
+{
+    match access_of(way.instr) {
+        Some((s, more)) => {
+            if s == r && is_left(way, r) {
+                is_covered_at(way, r, more)
+            } else {
+                false
+            }
+        }
+        None => false,
+    }
+}
