@@ -72,11 +72,7 @@ pub fn areas_of(alloc: Global, view: &ImageView<'_>) -> Result<Vec<Arc>, NoMemor
     areas.push(Arc::of(STACK_START, STACK_MORE))?;
     for k in 0..view.segment_count() {
         let segment = view.segment(k);
-        add_area(
-            &mut areas,
-            u64::from(segment.from),
-            u64::from(segment.len),
-        )?;
+        add_area(&mut areas, u64::from(segment.from), u64::from(segment.len))?;
     }
     Ok(areas)
 }

@@ -243,13 +243,7 @@ impl<'a> Growth<'a> {
         let (Some(step), Some(from)) = (self.step(node, way), self.facts.get(way.from)) else {
             return false;
         };
-        if !pass(
-            step,
-            from,
-            self.begins(node.function),
-            &self.areas,
-            to,
-        ) {
+        if !pass(step, from, self.begins(node.function), &self.areas, to) {
             return false;
         }
         self.tell(step, from, way, to);

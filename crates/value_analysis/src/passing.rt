@@ -244,13 +244,7 @@ impl Passing<'_> {
 }
 
 /// What an instruction that is no call leaves on the way to an address, with where loads and stores may be. Whether a state goes there.
-pub fn pass(
-    step: Step,
-    from: &Facts,
-    begins: Option<Arc>,
-    areas: &[Arc],
-    to: &mut State,
-) -> bool {
+pub fn pass(step: Step, from: &Facts, begins: Option<Arc>, areas: &[Arc], to: &mut State) -> bool {
     let Some(row) = passed_row(step.instr, step.at, step.next, &from.row) else {
         return false;
     };

@@ -76,11 +76,7 @@ fn word_of(n: u64) -> u32 {
 }
 
 /// Adds a number up to which a register may go.
-pub fn add_limit(
-    thresholds: &mut Vec<Threshold>,
-    register: u8,
-    word: u32,
-) -> Result<(), NoMemory> {
+pub fn add_limit(thresholds: &mut Vec<Threshold>, register: u8, word: u32) -> Result<(), NoMemory> {
     add_threshold(
         thresholds,
         Threshold {
