@@ -1,15 +1,14 @@
 -- Words in segments that can't be written: they are what the image loads, and no store changes them.
-use Rattle.std.proofs.Common.{◌≡◌, ℕ, zero, suc, ◌+◌, ◌-◌, ◌*◌, ◌<◌, ◌≤◌, ◌%◌, ◌^◌, Bool, true, false, not, cond, ◌&&◌, List, [], ◌∷◌, length, drop, map, filter, Option, Some, None, Ok, refl, sym, ap, ◌∙◌, subst, arith, add-zero, inl, inr, ⊎_elim}
-use Rattle.std.specs.Prelude.{nat_lt, nat_le, slice_get, slice_index, option_map}
+use Rattle.std.proofs.Common.{◌≡◌, ℕ, zero, suc, ◌+◌, ◌-◌, ◌*◌, ◌<◌, ◌≤◌, ◌^◌, Bool, true, false, not, cond, ◌&&◌, List, [], ◌∷◌, length, drop, map, filter, Some, refl, sym, ap, ◌∙◌, subst, arith, add-zero}
+use Rattle.std.specs.Prelude.{nat_lt, nat_le, slice_get, option_map}
 use Rattle.std.specs.List.{find, list_any, list_all}
-use Rattle.std.proofs.lemmas.Bool.{and_parts, and_from, and_right, both_ways, cond-true, cond-false, false_from_ne_true, leb-true, le-leb, lt-ltb, ltb-true, not-false, not-true, or_from, cases_Bool}
+use Rattle.std.proofs.lemmas.Bool.{and_parts, and_from, both_ways, cond-true, cond-false, false_from_ne_true, le-leb, lt-ltb, not-true, or_from}
 use Rattle.std.proofs.lemmas.List.{length-take}
 use Rattle.scale_base.specs.declared.headers.ProgramHeader.{ProgramHeader}
-use Rattle.scale_base.specs.declared.ranges.Span.{Span}
 use Rattle.scale_base.specs.Bytes.{byte_at, list_half_at, list_word_at}
 use Rattle.scale_base.specs.Elf.{has}
-use Rattle.scale_base.specs.Image.{Image, LoadSegment, PF_W, PLAIN_END, WINDOW_START, addresses_of, byte_in, contents, covers, file_part, has_key, image_of, is_fit, is_keyed_place, is_plain_place, is_zeroed, loaded_byte, loaded_headers, may_follow, memory_range, segment_byte, segment_of, stack}
-use Rattle.scale_base.specs.Layout.{Layout, Part, in_stack, in_text, is_plain_segment, layout_of, may_write, part_of}
+use Rattle.scale_base.specs.Image.{Image, LoadSegment, PF_W, PLAIN_END, byte_in, contents, covers, file_part, has_key, is_fit, is_keyed_place, is_plain_place, is_zeroed, loaded_byte, loaded_headers, may_follow, memory_range, segment_byte, segment_of, stack}
+use Rattle.scale_base.specs.Layout.{Part, in_stack, in_text, is_plain_segment, layout_of, may_write, part_of}
 use Rattle.scale_base.specs.Spans.{each_pair, ends_by, in_span, overlap}
 use Rattle.scale_base.specs.State.{word_at}
 use Rattle.scale_base.proofs.Laws.{contents-are}

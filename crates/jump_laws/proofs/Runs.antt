@@ -1,32 +1,32 @@
 -- What is known of words of tables in registers is so along a run whose returns go back to their calls.
-use Rattle.std.proofs.Common.{◌≡◌, ℕ, zero, suc, ◌+◌, ◌*◌, ◌<◌, ◌%◌, ◌^◌, true, false, ⊎_elim, List, [], ◌∷◌, ◌++◌, refl, sym, ap, ◌∙◌, subst, arith, Option, Some, None}
-use Rattle.std.specs.Prelude.{All, option_map}
+use Rattle.std.proofs.Common.{◌≡◌, ℕ, zero, suc, ◌+◌, ◌*◌, ◌<◌, ◌^◌, false, ⊎_elim, List, [], ◌∷◌, ◌++◌, refl, sym, ap, ◌∙◌, subst, arith, Option, Some, None}
+use Rattle.std.specs.Prelude.{All}
 use Rattle.std.proofs.lemmas.List.Sums.{fold-append}
-use Rattle.scale_base.specs.Image.{Image, image_of, loaded_byte}
-use Rattle.scale_base.specs.Layout.{layout_of, may_write}
+use Rattle.scale_base.specs.Layout.{may_write}
 use Rattle.scale_base.specs.declared.instruction.Instr.{Instr}
 use Rattle.scale_base.specs.declared.stepping.Stepped.{Stepped}
 use Rattle.scale_base.specs.declared.stepping.StepEnd.{StepEnd}
 use Rattle.scale_base.specs.declared.stepping.StepEnd.TheVariants.{Went, Exited, Trapped}
-use Rattle.scale_base.specs.State.{Setting, State, reg, word_at}
+use Rattle.scale_base.specs.State.{Setting, State, word_at}
 use Rattle.scale_base.specs.Reading.{instr_of}
 use Rattle.scale_base.specs.Step.{step}
 use Rattle.scale_base.specs.Run.{Run, Standing, GoesOn, HasExited, HasTrapped, one_more_by, ended, run, run_of, setting_of, start_of}
-use Rattle.cost_theory.specs.Graph.{Graph, Loops}
+use Rattle.cost_theory.specs.Graph.{Loops}
 use Rattle.cost_theory.specs.Reached.{Code}
-use Rattle.code_text.specs.Text.{Text, instr_at, kind_at, text_of}
+use Rattle.code_text.specs.Text.{Text, instr_at, text_of}
 use Rattle.code_text.specs.TextGraph.{text_graph, IsReachedCode}
 use Rattle.code_text.proofs.Laws.{kind_facts}
 use Rattle.graph_runs.specs.ReturnAddresses.{returns_after}
 use Rattle.graph_runs.specs.RunTransitions.{StandsBy, returns_more, returns_so}
 use Rattle.graph_runs.specs.Laws.{IsStartOver}
 use Rattle.graph_runs.proofs.Laws.{IsTrap, IsDone, image_starts, step_done}
-use Rattle.bound_laws.specs.Turning.{unasked, Leads, Calls}
+use Rattle.bound_laws.specs.Turning.{unasked}
 use Rattle.bound_laws.specs.Values.{AreBytes, Steps, Values}
 use Rattle.bound_laws.proofs.Laws.{At, Onward, Way, all_returns, along, back_to, fetched, into_call, loaded_small, onward, over_edge}
-use Rattle.stack_laws.specs.Laws.{IsStackAnalysed, StackValuesHold}
+use Rattle.stack_laws.specs.Areas.{IsLaidOut}
+use Rattle.stack_laws.specs.Laws.{StackValuesHold}
 use Rattle.stack_laws.specs.Stacks.{Stacks, view_of, IsStackInvariant, AreTold}
-use Rattle.stack_laws.proofs.Laws.{image_told}
+use Rattle.stack_laws.proofs.Laws.{image_laid, image_told}
 use Rattle.jump_laws.specs.declared.reads.TableRead.{TableRead}
 use Rattle.jump_laws.specs.Reads.{AreReads, IsRead}
 use Rattle.jump_laws.specs.Laws.{AreUnwritten, ImageWordsHold, TableWordsHold}
@@ -90,7 +90,7 @@ word_same f g q same =
 
 module _ (told_along : StackValuesHold) (t : Text) (env : Setting) (s : State) (code : Code) (v : Values) (w : Stacks) (known : ℕ → Option TableRead) (start : IsStartOver t env s) (reached : IsReachedCode t code)
     (inv : IsStackInvariant t (text_graph t code) v w) (reads : AreReads t (text_graph t code) v known) (unwritten : AreUnwritten env.layout known)
-    (keyless : env.layout.keyed ≡ None) (starts : AreTold v w s.pc (view_of w s.regs s.regs s.bytes)) (bytes : AreBytes s.bytes) (input : All (λ x. x < 256) env.input) where
+    (laid : IsLaidOut env.layout w.areas) (starts : AreTold v w s.pc (view_of w s.regs s.regs s.bytes)) (bytes : AreBytes s.bytes) (input : All (λ x. x < 256) env.input) where
   none : Loops
   none = record { loops = 0; header = λ k. 0; bound = λ k. 0; least_trips = λ k. 0; inside = λ k a. false }
 
@@ -128,7 +128,7 @@ module _ (told_along : StackValuesHold) (t : Text) (env : Setting) (s : State) (
 
     over : Steps (text_graph t code) u.pc next.pc → (o : Option TableRead) → known next.pc ≡ o → IsRead s.bytes o next.regs
     over steps None e = tt
-    over steps (Some y) e = reads_on env keyless u v at.1.over.zero at.1.over.size told.registers.each facts.0 fetch x went s.bytes bytes known now.read y (reads.registers next.pc y e) (words y e)
+    over steps (Some y) e = reads_on env laid.keyless u v at.1.over.zero at.1.over.size told.registers.each facts.0 fetch x went s.bytes bytes known now.read y (reads.registers next.pc y e) (words y e)
         (reads.steps u.pc next.pc facts.0 y steps told.registers.live facts.1 e)
 
     nothing : known next.pc ≡ None → IsRead s.bytes (known next.pc) next.regs
@@ -156,21 +156,17 @@ module _ (told_along : StackValuesHold) (t : Text) (env : Setting) (s : State) (
       let b = returns_before (run env s n).steps l.x rs so (returns_so (run env s n).steps) refl in
       let ih : Holds (run env s n).state = holds_at n b.0 b.1 l.goes in
       let stood = stands_at n l.goes b.0 b.1 in
-      let told = told_along t env s code v w start reached inv keyless starts bytes input n b.0 b.1 l.goes in
+      let told = told_along t env s code v w start reached inv laid starts bytes input n b.0 b.1 l.goes in
       let after : returns_after stood.0 l.x ≡ Some rs = ap (λ q. returns_after q l.x) stood.2 ∙ b.2 in
       let then : Holds (step env (run env s n).state).state = onwards n (stood.0, stood.1) told.0 told.1 ih l.x l.went rs after in
       subst Holds (sym (ap (λ y. y.state) l.same)) then
 
 pub words_hold : StackValuesHold → TableWordsHold
-words_hold told_along t env s code v w known start reached inv reads unwritten keyless starts bytes input n rs returns on =
-    (holds_at told_along t env s code v w known start reached inv reads unwritten keyless starts bytes input n rs returns on).read
-
-no_key : (image : Image) → image.keyed_segment ≡ None → (layout_of image).keyed ≡ None
-unfolding layout_of
-no_key image e = ap (option_map (λ k. k.range)) e
+words_hold told_along t env s code v w known start reached inv reads unwritten laid starts bytes input n rs returns on =
+    (holds_at told_along t env s code v w known start reached inv reads unwritten laid starts bytes input n rs returns on).read
 
 pub image_words_hold : StackValuesHold → ImageWordsHold
 unfolding run_of
 image_words_hold told_along file image levels input code v w known read small_file small_input ana reads unwritten n rs returns on =
     words_hold told_along (text_of image) (setting_of image levels input) (start_of image levels) code v w known (image_starts file image levels input read) ana.reached ana.invariant reads unwritten
-    (no_key image ana.plain) (image_told image levels code v w ana) (loaded_small file image read small_file) small_input n rs returns on
+    (image_laid image code v w ana) (image_told image levels code v w ana) (loaded_small file image read small_file) small_input n rs returns on

@@ -1,5 +1,5 @@
 -- What a step leaves in a register that is known to have a word of a table.
-use Rattle.std.proofs.Common.{◌≡◌, ℕ, ◌+◌, ◌*◌, ◌<◌, ◌%◌, ◌^◌, true, false, List, length, refl, sym, ap, ◌∙◌, subst, arith, Option, Some, None, get_or-set_same}
+use Rattle.std.proofs.Common.{◌≡◌, ℕ, ◌+◌, ◌*◌, ◌<◌, ◌%◌, true, false, List, length, sym, ap, ◌∙◌, subst, arith, Option, Some, None, get_or-set_same}
 use Rattle.std.specs.Prelude.{ℤ, ◌==◌, ◌&&◌, not, nat_le}
 use Rattle.std.proofs.lemmas.Bool.{both_ways, cond_both, cond-false, ne_eqb}
 use Rattle.scale_base.specs.declared.instruction.LoadOp.TheVariants.{Lw}
@@ -14,13 +14,11 @@ use Rattle.scale_base.specs.Layout.{can_read, in_option, is_keyed, uses_window}
 use Rattle.scale_base.specs.Arith.{plus, moved_by, unsigned}
 use Rattle.scale_base.specs.State.{Setting, State, reg, with_reg, word_at}
 use Rattle.scale_base.specs.Step.{Outcome, loads, performs, step}
-use Rattle.bound_laws.specs.Registers.{keeps}
-use Rattle.bound_laws.specs.Values.{Arc, AreBytes, Covers, IsHeld, IsIn, IsRegister, Values, held, sum_with}
+use Rattle.bound_laws.specs.Values.{Arc, AreBytes, IsHeld, IsIn, IsRegister, Values, held, sum_with}
 use Rattle.bound_laws.proofs.Laws.{held_of, in_covers, only_one, steps_leave, step_of, sum_with_in}
 use Rattle.stack_laws.specs.Stacks.{IsExactly}
-use Rattle.fixed_tables.specs.declared.table.Table.{Table}
 use Rattle.jump_laws.specs.declared.reads.TableRead.{TableRead}
-use Rattle.jump_laws.specs.Reads.{addresses_in, entry_of, IsEntryOf, IsPlainTable, IsRead, IsReadOver, raised, read_to}
+use Rattle.jump_laws.specs.Reads.{addresses_in, IsEntryOf, IsRead, IsReadOver, read_to}
 use Rattle.jump_laws.specs.Reads.IsReadOver.{kept, loaded, added, added_to}
 use Rattle.jump_laws.proofs.Words.{plain_entry, raised_entry, raised_entry_to, word_number}
 

@@ -1,5 +1,5 @@
 -- Scaffold: the laws of tables of targets, as statements for the contracts of functions.
-use Rattle.std.specs.Prelude.{◌≡◌, ℕ, ◌+◌, ◌*◌, ◌^◌, ◌<◌, false, All, List, Option, Some, None, Ok}
+use Rattle.std.specs.Prelude.{◌≡◌, ℕ, ◌+◌, ◌*◌, ◌<◌, false, All, List, Option, Some, Ok}
 use Rattle.scale_base.specs.Image.{Image, image_of, loaded_byte}
 use Rattle.scale_base.specs.Layout.{Layout, layout_of, may_write}
 use Rattle.scale_base.specs.State.{Setting, State, word_at}

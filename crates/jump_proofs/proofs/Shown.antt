@@ -1,6 +1,6 @@
 -- What the code shows of a note is so along the lowered image's runs.
 use Rattle.std.proofs.Common.{◌≡◌, ℕ, zero, suc, ◌+◌, ◌*◌, ◌<◌, ◌%◌, ◌^◌, ◌⊎◌, inl, inr, ⊎_elim, Bool, true, false, List, [], ◌∷◌, ◌++◌, length, Option, Some, None, Ok, refl, sym, ap, ◌∙◌, subst, arith}
-use Rattle.std.specs.Prelude.{All, slice_get, slice_index, option_map, unwrap_or}
+use Rattle.std.specs.Prelude.{All, slice_get, slice_index, unwrap_or}
 use Rattle.std.specs.List.{Contains}
 use Rattle.std.proofs.lemmas.List.Elements.{Contains-get_or}
 use Rattle.scale_base.specs.Image.{Image, image_of, loaded_byte}
@@ -14,7 +14,7 @@ use Rattle.graph_runs.proofs.Laws.{image_starts}
 use Rattle.bound_laws.proofs.Laws.{loaded_small}
 use Rattle.stack_laws.specs.Laws.{IsStackAnalysed}
 use Rattle.stack_laws.specs.Returning.{ComesBack}
-use Rattle.stack_laws.proofs.Laws.{image_told, runs_come_back}
+use Rattle.stack_laws.proofs.Laws.{image_laid, image_told, runs_come_back}
 use Rattle.stack_tables.proofs.Laws.{address_is}
 use Rattle.stack_tables.specs.Tables.{address, claim_stacks, claim_text, claim_values}
 use Rattle.jump_lists.specs.declared.notes.JumpNote.{JumpNote}
@@ -87,17 +87,13 @@ shown_proved words original c is ana reads fixed notes flags shown small k note 
     let entry : IsEntryOf (loaded_byte lowered) s.read.table (reg regs s.read.register) = subst (λ (o : Option TableRead). IsRead (loaded_byte lowered) o regs) (ap known there ∙ s.known) held in
     subst (λ (r : ℕ). Contains note.targets (reg regs r)) (sym s.register_is) (entry_listed lowered s.read.table note.targets (reg regs s.read.register) is.claim.image s.table entry)
 
-no_key : (image : Image) → image.keyed_segment ≡ None → (layout_of image).keyed ≡ None
-unfolding layout_of
-no_key image e = ap (option_map (λ k. k.range)) e
-
 pub runs_back : (c : ReadClaim) → IsReadClaim c → IsStackAnalysed c.claim.now.view.now c.claim.now.graph.now.code (claim_values c.claim.now) (claim_stacks c.claim.now) →
     ComesBack (claim_text c.claim.now) (text_graph (claim_text c.claim.now) c.claim.now.graph.now.code) (claim_values c.claim.now) (claim_stacks c.claim.now) → AreBytes c.claim.now.view.now.file → RunsGoBack c.claim.now.view.now
 unfolding run_of
 runs_back c is ana comes small levels input n small_input =
     let image : Image = c.claim.now.view.now in
     runs_come_back (text_of image) (setting_of image levels input) (start_of image levels) c.claim.now.graph.now.code (claim_values c.claim.now) (claim_stacks c.claim.now) (image_starts image.file image levels input is.claim.image) ana.reached ana.invariant comes
-    (no_key image ana.plain) (image_told image levels c.claim.now.graph.now.code (claim_values c.claim.now) (claim_stacks c.claim.now) ana) (loaded_small image.file image is.claim.image small) small_input n
+    (image_laid image c.claim.now.graph.now.code (claim_values c.claim.now) (claim_stacks c.claim.now) ana) (image_told image levels c.claim.now.graph.now.code (claim_values c.claim.now) (claim_stacks c.claim.now) ana) (loaded_small image.file image is.claim.image small) small_input n
 
 -- nothing is proved of notes without a flag
 pub none_proved : (original lowered : Image) (notes : List JumpNote) (proof : JumpProof) → proof.jumps.items ≡ [] → proof.returns ≡ false → IsProofOf original lowered notes proof

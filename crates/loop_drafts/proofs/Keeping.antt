@@ -1,8 +1,7 @@
 -- What a run of an image keeps of drafted bounds, and that its returns go back.
-use Rattle.std.proofs.Common.{◌≡◌, ℕ, ◌<◌, ◌≤◌, inr, List, length, Some, None, Ok, sym, ap, ◌∙◌, subst, arith}
-use Rattle.std.specs.Prelude.{All, option_map}
+use Rattle.std.proofs.Common.{◌≡◌, ℕ, ◌<◌, ◌≤◌, inr, List, length, Some, Ok, sym, ap, ◌∙◌, subst, arith}
+use Rattle.std.specs.Prelude.{All}
 use Rattle.scale_base.specs.Image.{Image, image_of}
-use Rattle.scale_base.specs.Layout.{layout_of}
 use Rattle.scale_base.specs.State.{Setting, State}
 use Rattle.scale_base.specs.Run.{run_of, setting_of, start_of}
 use Rattle.cost_theory.specs.Graph.{Loops, with_trips}
@@ -20,7 +19,7 @@ use Rattle.bound_laws.proofs.Laws.{all_returns, found_kept, kept_before, kept_by
 use Rattle.stack_laws.specs.Stacks.{Stacks}
 use Rattle.stack_laws.specs.Returning.{ComesBack}
 use Rattle.stack_laws.specs.Laws.{IsStackAnalysed}
-use Rattle.stack_laws.proofs.Laws.{image_told, runs_come_back}
+use Rattle.stack_laws.proofs.Laws.{image_laid, image_told, runs_come_back}
 
 some_same : (x y : Carried) → Some x ≡ Some y → x ≡ y
 some_same x y e = let r : x ≡ y = cc in r
@@ -80,13 +79,9 @@ module _ (file : List ℕ) (image : Image) (levels : ℕ) (input : List ℕ) (co
           let k = all_returns env s l m q.0 q.1 in
           (k.0, by m k.0 k.1, subst (λ rs. length rs ≤ most_returns) (sym k.2) q.2)
 
-no_key : (image : Image) → image.keyed_segment ≡ None → (layout_of image).keyed ≡ None
-unfolding layout_of
-no_key image e = ap (option_map (λ k. k.range)) e
-
 -- the returns of every run go back, and never are too many calls open, where tables of the code show it
 pub returns_back : (file : List ℕ) (image : Image) (levels : ℕ) (input : List ℕ) (code : Code) (v : Values) (w : Stacks) → image_of file ≡ Ok image → All (λ x. x < 256) file → All (λ x. x < 256) input →
     IsStackAnalysed image code v w → ComesBack (text_of image) (text_graph (text_of image) code) v w → (n : ℕ) → (rs : List ℕ) × (returns_so (run_of image levels input n).steps ≡ Some rs) × (length rs ≤ most_returns)
 unfolding run_of
 returns_back file image levels input code v w read small_file small_input ana comes n =
-    runs_come_back (text_of image) (setting_of image levels input) (start_of image levels) code v w (image_starts file image levels input read) ana.reached ana.invariant comes (no_key image ana.plain) (image_told image levels code v w ana) (loaded_small file image read small_file) small_input n
+    runs_come_back (text_of image) (setting_of image levels input) (start_of image levels) code v w (image_starts file image levels input read) ana.reached ana.invariant comes (image_laid image code v w ana) (image_told image levels code v w ana) (loaded_small file image read small_file) small_input n

@@ -1,8 +1,6 @@
 -- Lower bounds that tables of the stack show are kept.
-use Rattle.std.proofs.Common.{◌≡◌, ℕ, suc, ◌<◌, ◌≤◌, ◌⊎◌, ⊎_elim, length, refl, sym, ap, ◌∙◌, subst, arith, Some, None}
-use Rattle.std.specs.Prelude.{All, option_map}
-use Rattle.scale_base.specs.Image.{Image}
-use Rattle.scale_base.specs.Layout.{layout_of}
+use Rattle.std.proofs.Common.{◌≡◌, ℕ, suc, ◌<◌, ◌≤◌, ◌⊎◌, ⊎_elim, length, refl, sym, ◌∙◌, subst, arith, Some}
+use Rattle.std.specs.Prelude.{All}
 use Rattle.scale_base.specs.declared.stepping.Move.{Move}
 use Rattle.scale_base.specs.declared.stepping.Move.TheVariants.{Local, Call, Return}
 use Rattle.scale_base.specs.State.{Setting, State}
@@ -19,8 +17,9 @@ use Rattle.graph_runs.proofs.Laws.{kept_parts, image_starts}
 use Rattle.bound_laws.specs.Turning.{unasked}
 use Rattle.bound_laws.specs.Values.{Values, AreBytes}
 use Rattle.bound_laws.proofs.Laws.{kept_too, not_broken, kept_before, loaded_small}
+use Rattle.stack_laws.specs.Areas.{IsLaidOut}
 use Rattle.stack_laws.specs.Stacks.{Stacks, view_of, IsStackInvariant, AreTold}
-use Rattle.stack_laws.proofs.Laws.{image_told}
+use Rattle.stack_laws.proofs.Laws.{image_laid, image_told}
 use Rattle.lower_bounds.specs.LowerBounds.{IsLowerShown}
 use Rattle.lower_bounds.specs.Laws.{LowerBoundsAreKept}
 use Rattle.lower_bounds.proofs.Counts.{left_late}
@@ -33,7 +32,7 @@ same_leaving l trips Call pc next k = refl
 same_leaving l trips Return pc next k = refl
 
 module _ (t : Text) (env : Setting) (s : State) (code : Code) (v : Values) (w : Stacks) (l : Loops) (start : IsStartOver t env s) (reached : IsReachedCode t code) (inv : IsStackInvariant t (text_graph t code) v w)
-    (keyless : env.layout.keyed ≡ None) (starts : AreTold v w s.pc (view_of w s.regs s.regs s.bytes)) (bytes : AreBytes s.bytes) (input : All (λ x. x < 256) env.input) where
+    (laid : IsLaidOut env.layout w.areas) (starts : AreTold v w s.pc (view_of w s.regs s.regs s.bytes)) (bytes : AreBytes s.bytes) (input : All (λ x. x < 256) env.input) where
   pub kept_by_lower : (trips : ℕ → ℕ) → ((k : ℕ) → k < l.loops → IsLowerShown t (text_graph t code) v w l k ⊎ (l.least_trips k ≤ trips k)) → (n : ℕ) (d : Carried) → kept_at env s (with_trips l trips) n ≡ Some d → kept_at env s l n ≡ Some d
   kept_by_lower trips has n d kept = kept_by_steps l (with_trips l trips) (λ c x. refl) env s
       (λ n c d x at.
@@ -41,13 +40,9 @@ module _ (t : Text) (env : Setting) (s : State) (code : Code) (v : Values) (w : 
       not_broken l d.counts x
       (λ j jl. subst (λ f. f j ≤ l.bound j) p.1 (p.2 j jl))
       (λ j jl left. ⊎_elim
-      (λ (b : IsLowerShown t (text_graph t code) v w l j). left_late t env s code v w l j (l.least_trips j) b.certificate start reached inv keyless starts bytes input b.is n d x at.goes at.went
+      (λ (b : IsLowerShown t (text_graph t code) v w l j). left_late t env s code v w l j (l.least_trips j) b.certificate start reached inv laid starts bytes input b.is n d x at.goes at.went
       (kept_too (unasked l) (with_trips l trips) (λ c x. refl) env s (λ n c d x whole k. refl) (suc n) d at.behind) left)
       (λ (few : l.least_trips j ≤ trips j). let q : trips j ≤ d.counts j = subst (λ f. trips j ≤ f j) p.1 (p.3 j jl (same_leaving l trips x.moved x.pc x.next j ∙ left)) in let r : l.least_trips j ≤ d.counts j = omega arith in r) (has j jl))) n d kept
-
-no_key : (image : Image) → image.keyed_segment ≡ None → (layout_of image).keyed ≡ None
-unfolding layout_of
-no_key image e = ap (option_map (λ k. k.range)) e
 
 some_same : (x y : Carried) → Some x ≡ Some y → x ≡ y
 some_same x y e = let r : x ≡ y = cc in r
@@ -70,4 +65,4 @@ lower_kept file image levels input code v w l trips read small_file small_input 
     s = start_of image levels
 
     by : (m : ℕ) (d : Carried) → kept_at env s (with_trips l trips) m ≡ Some d → kept_at env s l m ≡ Some d
-    by m d h = kept_by_lower (text_of image) env s code v w l (image_starts file image levels input read) ana.reached ana.invariant (no_key image ana.plain) (image_told image levels code v w ana) (loaded_small file image read small_file) small_input trips which m d h
+    by m d h = kept_by_lower (text_of image) env s code v w l (image_starts file image levels input read) ana.reached ana.invariant (image_laid image code v w ana) (image_told image levels code v w ana) (loaded_small file image read small_file) small_input trips which m d h

@@ -26,6 +26,7 @@ use Rattle.graph_runs.proofs.Laws.{went_at, kept_parts}
 use Rattle.bound_laws.specs.Turning.{unasked, Leads}
 use Rattle.bound_laws.specs.Values.{Arc, IsIn, arc, IsRegister, Values, AreBytes, Steps}
 use Rattle.bound_laws.proofs.Laws.{KeptStep, At, Onward, Way, fetched, onward, over_edge, into_call, back_to, along, kept_before, site_small, site_back}
+use Rattle.stack_laws.specs.Areas.{IsLaidOut}
 use Rattle.stack_laws.specs.Stacks.{Stacks, View, view_of, IsRestored, IsStackInvariant, AreTold}
 use Rattle.stack_laws.specs.Counting.{Counter, counted, IsKeptBy, IsLeftBy}
 use Rattle.stack_laws.specs.Counting.Counter.{in_registers, in_word}
@@ -48,7 +49,7 @@ less_added : (before adds after : ℕ) → after ≡ (before + adds) % 2 ^ 32 �
 less_added before adds after is = let m = mod-le (before + adds) (2 ^ 32) in omega arith
 
 module _ (t : Text) (env : Setting) (ok : IsTextOf t env) (code : Code) (is : IsCodeOf (kind_at t) t.entry code) (fine : HasNoBadWord (kind_at t) t.entry)
-    (v : Values) (w : Stacks) (inv : IsStackInvariant t (text_graph t code) v w) (keyless : env.layout.keyed ≡ None) (input : All (λ x. x < 256) env.input)
+    (v : Values) (w : Stacks) (inv : IsStackInvariant t (text_graph t code) v w) (laid : IsLaidOut env.layout w.areas) (input : All (λ x. x < 256) env.input)
     (s : State) (over : IsOverText t s) (at_entry : s.pc ≡ t.entry) (l : Loops) (k trips : ℕ) (c : LowerCertificate)
     (cert : IsLowerCertificate t (text_graph t code) v w (l.header k) (l.inside k) trips c)
     (starts : AreTold v w s.pc (view_of w s.regs s.regs s.bytes)) (bytes : AreBytes s.bytes) where
@@ -68,7 +69,7 @@ module _ (t : Text) (env : Setting) (ok : IsTextOf t env) (code : Code) (is : Is
   record Stands (u : State) (calls : List ℕ) (d : Carried) : Type 0 where
     begun : List ℕ
     views : List View
-    holds : Holds t env ok code is fine v w inv keyless input u calls begun views
+    holds : Holds t env ok code is fine v w inv laid input u calls begun views
     mode : Mode c u.pc calls views (d.counts k) (value begun u)
 
   -- the count after a step, by where it comes from
@@ -80,7 +81,7 @@ module _ (t : Text) (env : Setting) (ok : IsTextOf t env) (code : Code) (is : Is
       ∙ ap (λ v. count_step (unasked l) (source_of x.moved u.pc d.returns) (Some v) d.counts k) (sym w.1))
 
   -- what is counted in is what it was before a call that came back
-  still : (counter : Counter) (u : ℕ) (x : View) (after : State) (back : Returned t env ok code is fine v w inv keyless input u x after) → reg x.regs 0 ≡ 0 → reg after.regs 0 ≡ 0 → IsKeptBy t v w u back.to counter →
+  still : (counter : Counter) (u : ℕ) (x : View) (after : State) (back : Returned t env ok code is fine v w inv laid input u x after) → reg x.regs 0 ≡ 0 → reg after.regs 0 ≡ 0 → IsKeptBy t v w u back.to counter →
       counted counter (view_of w x.begun after.regs after.bytes) ≡ counted counter x
   still (in_registers m) u x after back zero_before zero_after kept = measured_same m x.regs after.regs (one m.register kept.0) (one m.other kept.1)
     where
@@ -92,7 +93,7 @@ module _ (t : Text) (env : Setting) (ok : IsTextOf t env) (code : Code) (is : Is
 
   -- ---- a step of an instruction that is no call
   module _ (u : State) (rs : List ℕ) (at : At t u rs) (x : Stepped) (went : (step env u).end ≡ Went x) (ons : IsOverText t (step env u).state) (begun : List ℕ) (xs : List View)
-      (now : Holds t env ok code is fine v w inv keyless input u at.calls begun xs) (leads : Leads g u.pc (step env u).state.pc) (steps : Steps g u.pc (step env u).state.pc) where
+      (now : Holds t env ok code is fine v w inv laid input u at.calls begun xs) (leads : Leads g u.pc (step env u).state.pc) (steps : Steps g u.pc (step env u).state.pc) where
     abbrev next : State
     next = (step env u).state
 
@@ -106,17 +107,17 @@ module _ (t : Text) (env : Setting) (ok : IsTextOf t env) (code : Code) (is : Is
     fetch = fetched t env ok code is fine u rs at ∙ there.1
 
     told_next : AreTold v w next.pc (view_of w begun next.regs next.bytes)
-    told_next = (over_holds t env ok code is fine v w inv keyless input u rs at x went ons begun xs now leads steps).told
+    told_next = (over_holds t env ok code is fine v w inv laid input u rs at x went ons begun xs now leads steps).told
 
     adds : c.body u.pc ≡ true → value begun next ≤ value begun u + c.adds u.pc
     adds inside = less_added (value begun u) (c.adds u.pc) (value begun next)
-        (counted_on env keyless v w inv.offsets u at.over.zero at.over.size begun now.told now.memory i fetch x went ons.zero ons.size told_next c.counter (c.adds u.pc) cert.registers (cert.effects u.pc next.pc i steps now.told.registers.live inside there.1))
+        (counted_on env laid.keyless v w inv.offsets u at.over.zero at.over.size begun now.told now.memory i fetch x went ons.zero ons.size told_next c.counter (c.adds u.pc) cert.registers (cert.effects u.pc next.pc i steps now.told.registers.live inside there.1))
 
     within_arc : (b : ℕ) (y : Arc) → next.pc ≡ b → IsCountedOver v w i u.pc b c.counter y → IsIn y (value begun next)
-    within_arc b y same counts = counted_over env keyless v w inv.offsets u at.over.zero at.over.size begun now.told now.memory i fetch x went ons.zero ons.size told_next c.counter y cert.registers (subst (λ n. IsCountedOver v w i u.pc n c.counter y) (sym same) counts)
+    within_arc b y same counts = counted_over env laid.keyless v w inv.offsets u at.over.zero at.over.size begun now.told now.memory i fetch x went ons.zero ons.size told_next c.counter y cert.registers (subst (λ n. IsCountedOver v w i u.pc n c.counter y) (sym same) counts)
 
     no_way : (b : ℕ) → next.pc ≡ b → IsNever v i u.pc b → ⊥
-    no_way b same h = never env keyless v w inv.offsets u at.over.zero at.over.size begun now.told now.memory i fetch x went ons.zero ons.size told_next (subst (λ n. IsNever v i u.pc n) (sym same) h)
+    no_way b same h = never env laid.keyless v w inv.offsets u at.over.zero at.over.size begun now.told now.memory i fetch x went ons.zero ons.size told_next (subst (λ n. IsNever v i u.pc n) (sym same) h)
 
     small : next.pc ≡ h → extent u.pc ≡ false → value begun next ≤ c.first
     small same off = ⊎_elim
@@ -146,24 +147,24 @@ module _ (t : Text) (env : Setting) (ok : IsTextOf t env) (code : Code) (is : Is
       counted_as : (o : Option ℕ) → source_of x.moved u.pc d.returns ≡ o → f.counts k ≡ count_step (unasked l) o (Some next.pc) d.counts k
       counted_as o e = count_by u x kept.went d f kept.counts ∙ ap (λ q. count_step (unasked l) q (Some next.pc) d.counts k) e
 
-      stands : (calls : List ℕ) (count : ℕ) (begun : List ℕ) (xs : List View) → f.counts k ≡ count → on.at.calls ≡ calls → Holds t env ok code is fine v w inv keyless input next calls begun xs → Mode c next.pc calls xs count (value begun next) → Stands next on.at.calls f
+      stands : (calls : List ℕ) (count : ℕ) (begun : List ℕ) (xs : List View) → f.counts k ≡ count → on.at.calls ≡ calls → Holds t env ok code is fine v w inv laid input next calls begun xs → Mode c next.pc calls xs count (value begun next) → Stands next on.at.calls f
       stands calls count begun xs e q holds m = record {
         begun = begun;
         views = xs;
-        holds = subst (λ y. Holds t env ok code is fine v w inv keyless input next y begun xs) (sym q) holds;
+        holds = subst (λ y. Holds t env ok code is fine v w inv laid input next y begun xs) (sym q) holds;
         mode = subst (λ y. Mode c next.pc on.at.calls xs y (value begun next)) (sym e) (subst (λ y. Mode c next.pc y xs count (value begun next)) (sym q) m);
       }
 
       by_way : Way g u.pc next.pc at.calls on.at.calls x.moved → Stands next on.at.calls f
       by_way (over_edge leads steps after moved) =
-          let then = over_holds t env ok code is fine v w inv keyless input u d.returns at x kept.went on.at.over now.begun now.views now.holds leads steps in
+          let then = over_holds t env ok code is fine v w inv laid input u d.returns at x kept.went on.at.over now.begun now.views now.holds leads steps in
           stands at.calls (after_edge t g v w h extent trips c cert u.pc next.pc (d.counts k)) now.begun now.views (counted_as (Some u.pc) (ap (λ m. source_of m u.pc d.returns) moved)) after then
           (along_edge t g v w h extent trips c cert u.pc next.pc leads now.holds.told.registers.live at.calls now.views (d.counts k) (value now.begun u) (value now.begun next)
           (adds u d.returns at x kept.went on.at.over now.begun now.views now.holds leads steps)
           (small u d.returns at x kept.went on.at.over now.begun now.views now.holds leads steps) now.mode)
       by_way (into_call call after moved) =
           let seen : View = view_of w now.begun u.regs u.bytes in
-          let then = call_holds t env ok code is fine v w inv keyless input u d.returns at x kept.went on.at.over now.begun now.views now.holds moved call in
+          let then = call_holds t env ok code is fine v w inv laid input u d.returns at x kept.went on.at.over now.begun now.views now.holds moved call in
           stands (u.pc ∷ at.calls) (after_call_to t g v w h extent trips c cert next.pc (d.counts k)) next.regs (seen ∷ now.views) (counted_as None (ap (λ m. source_of m u.pc d.returns) moved)) after then
           (along_call t g v w h extent trips c cert u.pc next.pc call now.holds.told.registers.live at.calls now.views seen (d.counts k) (value next.regs next) at.over.zero now.mode)
       by_way (back_to z e to us before after lt from returns call leads moved) =
@@ -171,7 +172,7 @@ module _ (t : Text) (env : Setting) (ok : IsTextOf t env) (code : Code) (is : Is
           let z_small : z < 2 ^ 32 = site_small t env ok code is fine at.function z us stack in
           let source : source_of x.moved u.pc d.returns ≡ Some z =
           ap (λ m. source_of m u.pc d.returns) moved ∙ (ap (λ y. source_of Return u.pc y) (at.returns ∙ ap (map after_call) before) ∙ ap Some (site_back z z_small)) in
-          let b = back_holds t env ok code is fine v w inv keyless input u d.returns at x kept.went on.at.over now.begun now.views now.holds z e us before lt from returns leads in
+          let b = back_holds t env ok code is fine v w inv laid input u d.returns at x kept.went on.at.over now.begun now.views now.holds z e us before lt from returns leads in
           stands us (after_edge t g v w h extent trips c cert z next.pc (d.counts k)) b.0.begun b.1 (counted_as (Some z) source) after b.3
           (along_return t g v w h extent trips c cert u.pc z next.pc b.4.to leads b.4.call b.4.told.registers.live us b.1 b.0 (d.counts k) (value now.begun u) (value b.0.begun next)
           (λ zero_before inside. still c.counter z b.0 next b.4 zero_before on.at.over.zero (cert.calls z b.4.to b.4.call b.4.told.registers.live inside).2)
@@ -232,9 +233,9 @@ more_step env s l n x c d goes went before kept =
     (subst (λ y. watched l (kept_at env s l n) GoesOn y ≡ Some d) went (subst (λ y. watched l (kept_at env s l n) y (step env (run env s n).state).end ≡ Some d) goes kept))
 
 pub left_late : LowerCertificatesBoundTurns
-left_late t env s code v w l k trips c start reached inv keyless starts bytes input cert n d x goes went kept leaving =
+left_late t env s code v w l k trips c start reached inv laid starts bytes input cert n d x goes went kept leaving =
     let b = kept_before env s (unasked l) (suc n) n d (omega arith) kept in
     let more : kept_more (unasked l) (Some b.0) x ≡ Some d = more_step env s (unasked l) n x b.0 d goes went b.1 kept in
     let p = kept_parts (unasked l) (counts_after (unasked l) b.0 x) x (returns_after b.0.returns x) d more in
-    let at = stands_at t env start.text code reached.lists reached.words v w inv keyless input s start.state start.entry l k trips c cert starts bytes n b.0 b.1 goes in
-    step_late t env start.text code reached.lists reached.words v w inv keyless input s start.state start.entry l k trips c cert starts bytes (run env s n).state b.0 d x went p.0 p.1 at.0 at.1 leaving
+    let at = stands_at t env start.text code reached.lists reached.words v w inv laid input s start.state start.entry l k trips c cert starts bytes n b.0 b.1 goes in
+    step_late t env start.text code reached.lists reached.words v w inv laid input s start.state start.entry l k trips c cert starts bytes (run env s n).state b.0 d x went p.0 p.1 at.0 at.1 leaving

@@ -21,6 +21,7 @@ use Rattle.bound_laws.specs.Turning.{unasked, with_bounds}
 use Rattle.bound_laws.specs.Values.{IsRegister, IsHeld, Values, AreBytes}
 use Rattle.bound_laws.proofs.Laws.{kept_too, not_broken, all_returns, kept_before, loaded_small}
 use Rattle.stack_laws.specs.Telling.{IsTelling}
+use Rattle.stack_laws.specs.Areas.{IsLaidOut}
 use Rattle.stack_laws.specs.Stacks.{name_span, IsSpanned, Stacks, View, view_of, IsNamed, IsStackInvariant, AreTold}
 use Rattle.stack_laws.specs.Stacks.Name.{of_begin}
 use Rattle.stack_laws.specs.Counting.{IsShown}
@@ -39,10 +40,10 @@ same_leaving l bounds Call pc next k = refl
 same_leaving l bounds Return pc next k = refl
 
 module _ (t : Text) (env : Setting) (s : State) (code : Code) (v : Values) (w : Stacks) (l : Loops) (start : IsStartOver t env s) (reached : IsReachedCode t code) (inv : IsStackInvariant t (text_graph t code) v w)
-    (keyless : env.layout.keyed ≡ None) (starts : AreTold v w s.pc (view_of w s.regs s.regs s.bytes)) (bytes : AreBytes s.bytes) (input : All (λ x. x < 256) env.input) where
+    (laid : IsLaidOut env.layout w.areas) (starts : AreTold v w s.pc (view_of w s.regs s.regs s.bytes)) (bytes : AreBytes s.bytes) (input : All (λ x. x < 256) env.input) where
   bounded : (k : ℕ) → IsShown t (text_graph t code) v w l k → (n : ℕ) (d : Carried) → kept_at env s (unasked l) n ≡ Some d → d.counts k ≤ l.bound k
   bounded k has n d kept = few_turns (d.counts k) has.certificate.least has.certificate.width (l.bound k) has.positive
-      (stacks_bound_turns t env s code v w l k has.certificate start reached inv keyless starts bytes input has.is has.within n d kept) has.enough
+      (stacks_bound_turns t env s code v w l k has.certificate start reached inv laid starts bytes input has.is has.within n d kept) has.enough
 
   pub kept_by_shown : ((k : ℕ) → k < l.loops → IsShown t (text_graph t code) v w l k × (l.least_trips k ≡ 0)) → (n : ℕ) (d : Carried) → kept_at env s (unasked l) n ≡ Some d → kept_at env s l n ≡ Some d
   kept_by_shown has n d kept = kept_too l (unasked l) (λ c x. refl) env s
@@ -63,6 +64,10 @@ module _ (t : Text) (env : Setting) (s : State) (code : Code) (v : Values) (w : 
 no_key : (image : Image) → image.keyed_segment ≡ None → (layout_of image).keyed ≡ None
 unfolding layout_of
 no_key image e = ap (option_map (λ k. k.range)) e
+
+-- no segment of the image is keyed, and its bytes are in the areas
+pub image_laid : (image : Image) (code : Code) (v : Values) (w : Stacks) → IsStackAnalysed image code v w → IsLaidOut (layout_of image) w.areas
+image_laid image code v w ana = record { keyless = no_key image ana.plain; within = ana.areas }
 
 some_same : (x y : Carried) → Some x ≡ Some y → x ≡ y
 some_same x y e = let r : x ≡ y = cc in r
@@ -110,7 +115,7 @@ shown_kept file image levels input code v w l bounds read small_file small_input
     s = start_of image levels
 
     by : (m : ℕ) (d : Carried) → kept_at env s (with_bounds l bounds) m ≡ Some d → kept_at env s l m ≡ Some d
-    by m d h = kept_by_bounds (text_of image) env s code v w l (image_starts file image levels input read) ana.reached ana.invariant (no_key image ana.plain) (image_told image levels code v w ana) (loaded_small file image read small_file) small_input bounds which m d h
+    by m d h = kept_by_bounds (text_of image) env s code v w l (image_starts file image levels input read) ana.reached ana.invariant (image_laid image code v w ana) (image_told image levels code v w ana) (loaded_small file image read small_file) small_input bounds which m d h
 
 pub shown_by_returns : ShownBoundsAreKeptByReturns
 unfolding run_of
@@ -131,7 +136,7 @@ shown_by_returns file image levels input code v w l read small_file small_input 
     s = start_of image levels
 
     by : (m : ℕ) (d : Carried) → kept_at env s (unasked l) m ≡ Some d → kept_at env s l m ≡ Some d
-    by m d h = kept_by_shown (text_of image) env s code v w l (image_starts file image levels input read) ana.reached ana.invariant (no_key image ana.plain) (image_told image levels code v w ana) (loaded_small file image read small_file) small_input which m d h
+    by m d h = kept_by_shown (text_of image) env s code v w l (image_starts file image levels input read) ana.reached ana.invariant (image_laid image code v w ana) (image_told image levels code v w ana) (loaded_small file image read small_file) small_input which m d h
 
     here : (m : ℕ) → m ≤ n → (d : Carried) × (kept_at env s l m ≡ Some d) × (length d.returns ≤ most_returns)
     here m le =
@@ -143,4 +148,4 @@ pub runs_kept : RunsAreKept
 unfolding run_of
 runs_kept file image levels input code v w l read small_file small_input ana comes which n =
     shown_by_returns file image levels input code v w l read small_file small_input ana which n (λ m le.
-    runs_come_back (text_of image) (setting_of image levels input) (start_of image levels) code v w (image_starts file image levels input read) ana.reached ana.invariant comes (no_key image ana.plain) (image_told image levels code v w ana) (loaded_small file image read small_file) small_input m)
+    runs_come_back (text_of image) (setting_of image levels input) (start_of image levels) code v w (image_starts file image levels input read) ana.reached ana.invariant comes (image_laid image code v w ana) (image_told image levels code v w ana) (loaded_small file image read small_file) small_input m)

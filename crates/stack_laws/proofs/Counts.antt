@@ -22,6 +22,7 @@ use Rattle.bound_laws.specs.Registers.{measured}
 use Rattle.bound_laws.specs.Turning.{unasked}
 use Rattle.bound_laws.specs.Values.{Arc, arc, IsHeld, IsRegister, Covers, sum_with, scaled, line_of, Values, AreBytes}
 use Rattle.bound_laws.proofs.Laws.{no_turns, in_covers, sum_with_in, scaled_in, held_of, line_in, measured_small, At, Way, Onward, site_small, over_edge, into_call, back_to, KeptStep, along, site_back}
+use Rattle.stack_laws.specs.Areas.{IsLaidOut}
 use Rattle.stack_laws.specs.Stacks.{Stacks, View, view_of, IsRestored, IsStackInvariant, AreTold}
 use Rattle.stack_laws.specs.Counting.{Counter, counted, IsLeftBy, IsKeptBy, StackCertificate, IsStackCertificate, IsWithin}
 use Rattle.stack_laws.specs.Counting.Counter.{in_registers, in_word}
@@ -59,7 +60,7 @@ within_width v w width a (in_word k factor shift) x zero_is size told h =
     from_zero width value is.word is.near
 
 module _ (t : Text) (env : Setting) (ok : IsTextOf t env) (code : Code) (is : IsCodeOf (kind_at t) t.entry code) (fine : HasNoBadWord (kind_at t) t.entry)
-    (v : Values) (w : Stacks) (inv : IsStackInvariant t (text_graph t code) v w) (keyless : env.layout.keyed ≡ None) (input : All (λ x. x < 256) env.input)
+    (v : Values) (w : Stacks) (inv : IsStackInvariant t (text_graph t code) v w) (laid : IsLaidOut env.layout w.areas) (input : All (λ x. x < 256) env.input)
     (s : State) (over : IsOverText t s) (at_entry : s.pc ≡ t.entry) (l : Loops) (k : ℕ) (c : StackCertificate)
     (cert : IsStackCertificate t (text_graph t code) v w (l.header k) (l.inside k) c) (shown : IsWithin v w c.width c.counter (l.header k))
     (starts : AreTold v w s.pc (view_of w s.regs s.regs s.bytes)) (bytes : AreBytes s.bytes) where
@@ -70,7 +71,7 @@ module _ (t : Text) (env : Setting) (ok : IsTextOf t env) (code : Code) (is : Is
   record Stands (u : State) (calls : List ℕ) (d : Carried) : Type 0 where
     begun : List ℕ
     views : List View
-    holds : Holds t env ok code is fine v w inv keyless input u calls begun views
+    holds : Holds t env ok code is fine v w inv laid input u calls begun views
     mode : Mode c u.pc calls views (d.counts k) (value begun u)
 
   -- the count after a step, by where it comes from
@@ -82,7 +83,7 @@ module _ (t : Text) (env : Setting) (ok : IsTextOf t env) (code : Code) (is : Is
       ∙ ap (λ v. count_step (unasked l) (source_of x.moved (run env s n).state.pc d.returns) (Some v) d.counts k) (sym w.1))
 
   -- what is counted in is what it was before a call that came back
-  still : (counter : Counter) (u : ℕ) (x : View) (after : State) (back : Returned t env ok code is fine v w inv keyless input u x after) → reg x.regs 0 ≡ 0 → reg after.regs 0 ≡ 0 → IsKeptBy t v w u back.to counter →
+  still : (counter : Counter) (u : ℕ) (x : View) (after : State) (back : Returned t env ok code is fine v w inv laid input u x after) → reg x.regs 0 ≡ 0 → reg after.regs 0 ≡ 0 → IsKeptBy t v w u back.to counter →
       counted counter (view_of w x.begun after.regs after.bytes) ≡ counted counter x
   still (in_registers m) u x after back zero_before zero_after kept = measured_alike m x.regs after.regs (one m.register kept.0) (one m.other kept.1)
     where
@@ -113,29 +114,29 @@ module _ (t : Text) (env : Setting) (ok : IsTextOf t env) (code : Code) (is : Is
       counted_as o e = count_is n d f x kept ∙ ap (λ q. count_step (unasked l) q (Some next.pc) d.counts k) e
 
       -- at the header the tables say that the counter is within the width
-      small : (calls : List ℕ) (begun : List ℕ) (xs : List View) → Holds t env ok code is fine v w inv keyless input next calls begun xs → next.pc ≡ h → value begun next ≤ c.width
+      small : (calls : List ℕ) (begun : List ℕ) (xs : List View) → Holds t env ok code is fine v w inv laid input next calls begun xs → next.pc ≡ h → value begun next ≤ c.width
       small calls begun xs holds e = within_width v w c.width next.pc c.counter (view_of w begun next.regs next.bytes) on.at.over.zero on.at.over.size holds.told (subst (IsWithin v w c.width c.counter) (sym e) shown)
 
-      stands : (calls : List ℕ) (count : ℕ) (begun : List ℕ) (xs : List View) → f.counts k ≡ count → on.at.calls ≡ calls → Holds t env ok code is fine v w inv keyless input next calls begun xs → Mode c next.pc calls xs count (value begun next) → Stands next on.at.calls f
+      stands : (calls : List ℕ) (count : ℕ) (begun : List ℕ) (xs : List View) → f.counts k ≡ count → on.at.calls ≡ calls → Holds t env ok code is fine v w inv laid input next calls begun xs → Mode c next.pc calls xs count (value begun next) → Stands next on.at.calls f
       stands calls count begun xs e q holds m = record {
         begun = begun;
         views = xs;
-        holds = subst (λ y. Holds t env ok code is fine v w inv keyless input next y begun xs) (sym q) holds;
+        holds = subst (λ y. Holds t env ok code is fine v w inv laid input next y begun xs) (sym q) holds;
         mode = subst (λ y. Mode c next.pc on.at.calls xs y (value begun next)) (sym e) (subst (λ y. Mode c next.pc y xs count (value begun next)) (sym q) m);
       }
 
       by_way : Way g u.pc next.pc at.calls on.at.calls x.moved → Stands next on.at.calls f
       by_way (over_edge leads steps after moved) =
-          let then = over_holds t env ok code is fine v w inv keyless input u d.returns at x kept.went on.at.over now.begun now.views now.holds leads steps in
+          let then = over_holds t env ok code is fine v w inv laid input u d.returns at x kept.went on.at.over now.begun now.views now.holds leads steps in
           stands at.calls (after_edge t g v w h (l.inside k) c cert u.pc next.pc (d.counts k)) now.begun now.views (counted_as (Some u.pc) (ap (λ m. source_of m u.pc d.returns) moved)) after then
           (along_edge t g v w h (l.inside k) c cert u.pc next.pc leads now.holds.told.registers.live at.calls now.views (d.counts k) (value now.begun u) (value now.begun next)
           (counted_small c.counter (view_of w now.begun next.regs next.bytes))
-          (λ inside. counts_on t env ok code is fine v w inv keyless input u d.returns at x kept.went on.at.over now.begun now.views now.holds c.counter (c.adds u.pc) cert.registers
+          (λ inside. counts_on t env ok code is fine v w inv laid input u d.returns at x kept.went on.at.over now.begun now.views now.holds c.counter (c.adds u.pc) cert.registers
           (λ j here. cert.effects u.pc next.pc j steps now.holds.told.registers.live inside here))
           (small at.calls now.begun now.views then) now.mode)
       by_way (into_call call after moved) =
           let seen : View = view_of w now.begun u.regs u.bytes in
-          let then = call_holds t env ok code is fine v w inv keyless input u d.returns at x kept.went on.at.over now.begun now.views now.holds moved call in
+          let then = call_holds t env ok code is fine v w inv laid input u d.returns at x kept.went on.at.over now.begun now.views now.holds moved call in
           stands (u.pc ∷ at.calls) (after_call_to t g v w h (l.inside k) c cert next.pc (d.counts k)) next.regs (seen ∷ now.views) (counted_as None (ap (λ m. source_of m u.pc d.returns) moved)) after then
           (along_call t g v w h (l.inside k) c cert u.pc next.pc call now.holds.told.registers.live at.calls now.views seen (d.counts k) (value next.regs next)
           (counted_small c.counter (view_of w next.regs next.regs next.bytes)) at.over.zero (small (u.pc ∷ at.calls) next.regs (seen ∷ now.views) then) now.mode)
@@ -144,7 +145,7 @@ module _ (t : Text) (env : Setting) (ok : IsTextOf t env) (code : Code) (is : Is
           let z_small : z < 2 ^ 32 = site_small t env ok code is fine at.function z us stack in
           let source : source_of x.moved u.pc d.returns ≡ Some z =
           ap (λ m. source_of m u.pc d.returns) moved ∙ (ap (λ y. source_of Return u.pc y) (at.returns ∙ ap (map after_call) before) ∙ ap Some (site_back z z_small)) in
-          let b = back_holds t env ok code is fine v w inv keyless input u d.returns at x kept.went on.at.over now.begun now.views now.holds z e us before lt from returns leads in
+          let b = back_holds t env ok code is fine v w inv laid input u d.returns at x kept.went on.at.over now.begun now.views now.holds z e us before lt from returns leads in
           stands us (after_edge t g v w h (l.inside k) c cert z next.pc (d.counts k)) b.0.begun b.1 (counted_as (Some z) source) after b.3
           (along_return t g v w h (l.inside k) c cert u.pc z next.pc b.4.to leads b.4.call b.4.told.registers.live us b.1 b.0 (d.counts k) (value now.begun u) (value b.0.begun next)
           (counted_small c.counter (view_of w b.0.begun next.regs next.bytes))
@@ -169,5 +170,5 @@ module _ (t : Text) (env : Setting) (ok : IsTextOf t env) (code : Code) (is : Is
       (λ u calls d m. turned c u.pc calls m.views (d.counts k) (value m.begun u) m.mode) goes n d kept).0
 
 pub stacks_bound_turns : StackCertificatesBoundTurns
-stacks_bound_turns t env s code v w l k c start reached inv keyless starts bytes input cert shown n d kept =
-    counts_within t env start.text code reached.lists reached.words v w inv keyless input s start.state start.entry l k c cert shown starts bytes n d kept
+stacks_bound_turns t env s code v w l k c start reached inv laid starts bytes input cert shown n d kept =
+    counts_within t env start.text code reached.lists reached.words v w inv laid input s start.state start.entry l k c cert shown starts bytes n d kept

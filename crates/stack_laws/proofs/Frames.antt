@@ -14,16 +14,17 @@ use Rattle.cost_theory.specs.Graph.{Graph}
 use Rattle.code_text.specs.Text.{Text, instr_at}
 use Rattle.bound_laws.specs.Registers.{Measure, measured, keeps, effect}
 use Rattle.bound_laws.specs.Turning.{Leads, Calls}
-use Rattle.bound_laws.specs.Values.{Arc, word, IsHeld, Covers, sum_with, opposite_of, held, said, passed, line_of, IsImpossible, keeps_of, keeps_at, IsRegister, Values, Steps, IsLineCovered, AreBytes}
+use Rattle.bound_laws.specs.Values.{Arc, word, IsIn, IsHeld, Covers, sum_with, opposite_of, held, said, passed, line_of, IsImpossible, keeps_of, keeps_at, IsRegister, Values, Steps, IsLineCovered, AreBytes}
 use Rattle.bound_laws.proofs.Laws.{only_one, in_covers, in_word, sum_with_in, held_of, line_in}
 use Rattle.stack_laws.specs.Cells.{IsCellHeld}
+use Rattle.stack_laws.specs.Areas.{IsAccessedIn, IsCoveredByAccess}
 use Rattle.stack_laws.specs.Telling.{IsTelling, IsToldTo}
 use Rattle.stack_laws.specs.Stacks.{IsCellLoaded, IsExactly, known_sum, known_sums, name_span, span_of, IsSpanned, IsSpannedOver, IsWordSpanned, IsSpanBack, IsWordSpanBack, Name, Stacks, View, view_of, word_address, IsNamed, name_of, more_of, name_arc, word_loaded, IsStoredFrom, IsLoadedTo, IsFar, IsMissed, IsDescending, IsSteady, IsNamedOver, IsWordCovered, IsWordNamed, ArePassed, AreEntered, IsRestored, IsSafe, IsNameSafe, IsRegisterBack, IsSumBack, IsNameBack, IsWordBack, IsWordNameBack, AreBack, IsReturned, IsStackInvariant, AreTold}
 use Rattle.stack_laws.specs.Stacks.Name.{of_begin, of_word}
 use Rattle.stack_laws.specs.Stacks.IsNamedOver.{unnamed as none_over, kept as kept_over, summed as summed_over, added as added_over, added_to as added_to_over, loaded as loaded_over, loaded_as as loaded_as_over, stored as stored_over}
-use Rattle.stack_laws.specs.Stacks.IsWordCovered.{any as any_word, kept as kept_word, stored as stored_word, tied as tied_word}
+use Rattle.stack_laws.specs.Stacks.IsWordCovered.{any as any_word, kept as kept_word, stored as stored_word, tied as tied_word, accessed as accessed_word_over}
 use Rattle.stack_laws.specs.Stacks.IsWordNamed.{unnamed as none_word, kept as kept_name, stored as stored_name}
-use Rattle.stack_laws.specs.Stacks.IsSpannedOver.{unspanned as none_span, kept as kept_span, by_name as named_span, summed as summed_span, added as added_span, added_to as added_to_span, loaded as loaded_span}
+use Rattle.stack_laws.specs.Stacks.IsSpannedOver.{unspanned as none_span, kept as kept_span, by_name as named_span, summed as summed_span, added as added_span, added_to as added_to_span, loaded as loaded_span, by_interval as interval_span}
 use Rattle.stack_laws.specs.Stacks.IsWordSpanned.{unspanned as none_word_span, kept as kept_word_span, by_name as named_word_span, stored as stored_word_span}
 use Rattle.stack_laws.specs.Stacks.IsSpanBack.{by_name as span_by_name, restored as restored_span}
 use Rattle.stack_laws.specs.Stacks.IsWordSpanBack.{by_name as word_span_by_name, kept as kept_span_back}
@@ -38,6 +39,7 @@ use Rattle.stack_laws.proofs.Making.{line_made, subtracted}
 use Rattle.stack_laws.specs.Making.{IsLineMade, IsSubtracted}
 use Rattle.stack_laws.proofs.Stepping.{load_far, store_keeps}
 use Rattle.stack_laws.proofs.Cells.{cell_loaded}
+use Rattle.stack_laws.proofs.Areas.{accessed_register, accessed_word, span_by_interval}
 use Rattle.stack_laws.proofs.Telling.{told_behind, told_to}
 
 words_small : (x y z u : ℕ) → x < 256 → y < 256 → z < 256 → u < 256 → x + y * 2 ^ 8 + z * 2 ^ 16 + u * 2 ^ 24 < 2 ^ 32
@@ -151,7 +153,8 @@ module _ (t : Text) (g : Graph) (v : Values) (w : Stacks) (inv : IsStackInvarian
       (span_held : (r : ℕ) → IsSpanned (span_of w a r) (view_of w begun before bytes) (reg before r))
       (results : (op : RegOp) (r rs1 rs2 : ℕ) → IsRegister r → i ≡ Reg op r rs1 rs2 → reg after r ≡ reg_result op (reg before rs1) (reg before rs2))
       (left : IsLeft a begun bytes later) (cells : (k : ℕ) → IsCellHeld (w.cell k) later)
-      (reads : (op : LoadOp) (r rs1 : ℕ) (offset : ℤ) → IsRegister r → i ≡ Load op r rs1 offset → reg after r ≡ loaded op bytes (moved_by (reg before rs1) offset)) where
+      (reads : (op : LoadOp) (r rs1 : ℕ) (offset : ℤ) → IsRegister r → i ≡ Load op r rs1 offset → reg after r ≡ loaded op bytes (moved_by (reg before rs1) offset))
+      (accesses : (r more : ℕ) (c : Arc) → IsAccessedIn v w.areas i a r more c → IsIn c (plus (reg before r) more)) where
     abbrev now : View
     now = view_of w begun before bytes
 
@@ -223,6 +226,10 @@ module _ (t : Text) (g : Graph) (v : Values) (w : Stacks) (inv : IsStackInvarian
         let h : IsHeld (passed i a b (v.at a) r) (reg before r) = subst (IsHeld (passed i a b (v.at a) r)) (kept r keep) (holds r is) in
         in_covers (sum_with (passed i a b (v.at a) r) (opposite_of more)) (w.word b k) (then.words k)
         (subst (IsHeld (sum_with (passed i a b (v.at a) r) (opposite_of more))) (sym (misses k m)) (tied_in (passed i a b (v.at a) r) now k more (reg before r) (small_now k) n h)) c
+    words_then k (accessed_word_over r more further place is e m p c) =
+        let n : IsNamed (Some (of_word k more)) now (reg before r) = subst (λ o. IsNamed o now (reg before r)) e (told.names r is) in
+        in_covers (sum_with (Some place) (opposite_of (plus further more))) (w.word b k) (then.words k)
+        (subst (IsHeld (sum_with (Some place) (opposite_of (plus further more)))) (sym (misses k m)) (accessed_word place now k more further (reg before r) (small_now k) n (accesses r further place p))) c
 
     word_names_then : (k : ℕ) → IsWordNamed v w i a b k → IsNamed (w.word_name b k) then (then.words k)
     word_names_then k (none_word e) = subst (λ n. IsNamed n then (then.words k)) (sym e) tt
@@ -231,21 +238,22 @@ module _ (t : Text) (g : Graph) (v : Values) (w : Stacks) (inv : IsStackInvarian
     word_names_then k (stored_name r s e st) = subst (λ n. IsNamed n then (then.words k)) (sym e)
         (subst (λ value. IsNamed (name_of w a r) then value) (sym (puts k r s)) (named_mod (name_of w a r) now then (reg before r) (steady (name_of w a r) st) (name_held r)))
 
-    spans_then : (r : ℕ) → IsRegister r → IsNamed (w.name b r) then (reg after r) → IsSpannedOver v w i a b r → IsSpanned (w.span b r) then (reg after r)
-    spans_then r is named (none_span e) = subst (λ n. IsSpanned n then (reg after r)) (sym e) tt
-    spans_then r is named (kept_span keep c) = spanned_covers (w.span b r) (w.span a r) then (reg after r) (spanned_alike (w.span a r) now then (reg before r) (reg after r) refl (ap (λ n. n % 2 ^ 32) (kept r keep)) (told.spans r is)) c
-    spans_then r is named (named_span c) = spanned_covers (w.span b r) (name_span (w.name b r)) then (reg after r) (span_named (w.name b r) then (reg after r) named) c
-    spans_then r is named (summed_span rs imm e c) = spanned_covers (w.span b r) (known_sum (span_of w a rs) (unsigned imm)) then (reg after r)
+    spans_then : (r : ℕ) → IsRegister r → IsNamed (w.name b r) then (reg after r) → IsHeld (w.begins (v.function b)) (reg begun 2) → IsHeld (v.at b r) (reg after r) → IsSpannedOver v w i a b r → IsSpanned (w.span b r) then (reg after r)
+    spans_then r is named begins value (none_span e) = subst (λ n. IsSpanned n then (reg after r)) (sym e) tt
+    spans_then r is named begins value (kept_span keep c) = spanned_covers (w.span b r) (w.span a r) then (reg after r) (spanned_alike (w.span a r) now then (reg before r) (reg after r) refl (ap (λ n. n % 2 ^ 32) (kept r keep)) (told.spans r is)) c
+    spans_then r is named begins value (named_span c) = spanned_covers (w.span b r) (name_span (w.name b r)) then (reg after r) (span_named (w.name b r) then (reg after r) named) c
+    spans_then r is named begins value (summed_span rs imm e c) = spanned_covers (w.span b r) (known_sum (span_of w a rs) (unsigned imm)) then (reg after r)
         (spanned_alike (known_sum (span_of w a rs) (unsigned imm)) now then (plus (reg before rs) (unsigned imm)) (reg after r) refl (ap (λ n. n % 2 ^ 32) (sums r rs imm is e)) (span_sum (span_of w a rs) now (reg before rs) (unsigned imm) (span_held rs))) c
-    spans_then r is named (added_span rs1 rs2 e c) = spanned_covers (w.span b r) (known_sums (span_of w a rs1) (held (v.at a) rs2)) then (reg after r)
+    spans_then r is named begins value (added_span rs1 rs2 e c) = spanned_covers (w.span b r) (known_sums (span_of w a rs1) (held (v.at a) rs2)) then (reg after r)
         (spanned_alike (known_sums (span_of w a rs1) (held (v.at a) rs2)) now then (plus (reg before rs1) (reg before rs2)) (reg after r) refl (ap (λ n. n % 2 ^ 32) (results Add r rs1 rs2 is e))
         (span_sums (span_of w a rs1) (held (v.at a) rs2) now (reg before rs1) (reg before rs2) (span_held rs1) (held_before rs2))) c
-    spans_then r is named (added_to_span rs1 rs2 e c) = spanned_covers (w.span b r) (known_sums (span_of w a rs2) (held (v.at a) rs1)) then (reg after r)
+    spans_then r is named begins value (added_to_span rs1 rs2 e c) = spanned_covers (w.span b r) (known_sums (span_of w a rs2) (held (v.at a) rs1)) then (reg after r)
         (spanned_alike (known_sums (span_of w a rs2) (held (v.at a) rs1)) now then (plus (reg before rs2) (reg before rs1)) (reg after r) refl
         (ap (λ n. n % 2 ^ 32) (results Add r rs1 rs2 is e ∙ turned_round (reg before rs1) (reg before rs2)))
         (span_sums (span_of w a rs2) (held (v.at a) rs1) now (reg before rs2) (reg before rs1) (span_held rs2) (held_before rs1))) c
-    spans_then r is named (loaded_span k l c) = spanned_covers (w.span b r) (w.word_span a k) then (reg after r)
+    spans_then r is named begins value (loaded_span k l c) = spanned_covers (w.span b r) (w.word_span a k) then (reg after r)
         (spanned_alike (w.word_span a k) now then (now.words k) (reg after r) refl (ap (λ n. n % 2 ^ 32) (gets k r is l)) (told.word_spans k)) c
+    spans_then r is named begins value (interval_span c) = span_by_interval v w b r then (reg after r) begins value c
 
     word_spans_then : (k : ℕ) → IsNamed (w.word_name b k) then (then.words k) → IsWordSpanned v w i a b k → IsSpanned (w.word_span b k) then (then.words k)
     word_spans_then k named (none_word_span e) = subst (λ n. IsSpanned n then (then.words k)) (sym e) tt
@@ -265,7 +273,7 @@ module _ (t : Text) (g : Graph) (v : Values) (w : Stacks) (inv : IsStackInvarian
       names = names;
       words = words;
       word_names = λ k. word_names_then k (p.word_names k);
-      spans = λ r is. spans_then r is (names r is) (p.spans r is);
+      spans = λ r is. spans_then r is (names r is) begins (each r is) (p.spans r is);
       word_spans = λ k. word_spans_then k (word_names_then k (p.word_names k)) (p.word_spans k);
       begins = begins;
       cells = cells;
@@ -283,13 +291,15 @@ module _ (t : Text) (g : Graph) (v : Values) (w : Stacks) (inv : IsStackInvarian
 
         each : (r : ℕ) → IsRegister r → IsHeld (v.at b r) (reg after r)
         each r is = ⊎_elim (register_in v inv.registers a b i before after kept holds adds so zero_before size_before zero_after size_after told.registers r is)
-            (λ (x : Covers (v.at b r) (name_arc v w b (w.name b r)) ⊎ IsSubtracted v i a b r ⊎ IsCellLoaded v w i a b r ⊎ IsToldTo v (w.told a) i a b r). ⊎_elim
+            (λ (x : Covers (v.at b r) (name_arc v w b (w.name b r)) ⊎ IsSubtracted v i a b r ⊎ IsCellLoaded v w i a b r ⊎ IsToldTo v (w.told a) i a b r ⊎ IsCoveredByAccess v w.areas i a b r). ⊎_elim
             (λ (c : Covers (v.at b r) (name_arc v w b (w.name b r))). in_covers (name_arc v w b (w.name b r)) (v.at b r) (reg after r) (name_arc_in v w b (w.name b r) then (reg after r) begins words small_then (names r is)) c)
-            (λ (y : IsSubtracted v i a b r ⊎ IsCellLoaded v w i a b r ⊎ IsToldTo v (w.told a) i a b r). ⊎_elim
+            (λ (y : IsSubtracted v i a b r ⊎ IsCellLoaded v w i a b r ⊎ IsToldTo v (w.told a) i a b r ⊎ IsCoveredByAccess v w.areas i a b r). ⊎_elim
             (λ (c : IsSubtracted v i a b r). subtracted v inv.registers a b i before after kept sums results zero_before size_before told.registers r is c)
-            (λ (z : IsCellLoaded v w i a b r ⊎ IsToldTo v (w.told a) i a b r). ⊎_elim
+            (λ (z : IsCellLoaded v w i a b r ⊎ IsToldTo v (w.told a) i a b r ⊎ IsCoveredByAccess v w.areas i a b r). ⊎_elim
             (λ (c : IsCellLoaded v w i a b r). cell_loaded v w i a b r before after bytes held_before told.cells (λ op rs1 offset. reads op r rs1 offset is) c)
-            (λ (c : IsToldTo v (w.told a) i a b r). told_to v (w.told a) a b i before after kept holds numbers results zero_before size_before zero_after size_after told.registers.each told.told r is c) z) y) x) (p.registers r is)
+            (λ (u : IsToldTo v (w.told a) i a b r ⊎ IsCoveredByAccess v w.areas i a b r). ⊎_elim
+            (λ (c : IsToldTo v (w.told a) i a b r). told_to v (w.told a) a b i before after kept holds numbers results zero_before size_before zero_after size_after told.registers.each told.told r is c)
+            (λ (c : IsCoveredByAccess v w.areas i a b r). accessed_register v w.areas i a b r before after (kept r) (held_before r) (accesses r) c) u) z) y) x) (p.registers r is)
 
     -- over an edge
     pub step_frames : (calls : List ℕ) (xs : List View) → Leads g a b → Steps g a b → Frames a begun bytes calls xs → AreTold v w b then × Frames b begun later calls xs

@@ -1,6 +1,6 @@
 -- The laws of stacks, for the proofs of crates above.
 pub use Rattle.stack_laws.proofs.Returning.{runs_come_back}
-pub use Rattle.stack_laws.proofs.Bounds.{image_told, shown_kept, shown_by_returns}
+pub use Rattle.stack_laws.proofs.Bounds.{image_laid, image_told, shown_kept, shown_by_returns}
 pub use Rattle.stack_laws.proofs.Counts.{stacks_bound_turns}
 pub use Rattle.stack_laws.proofs.Runs.{Holds, Returned, over_holds, call_holds, back_holds}
 pub use Rattle.stack_laws.proofs.Stepping.{gets, puts, misses}

@@ -4,6 +4,7 @@ pub mod Covering
 pub mod Making
 pub mod Stepping
 pub mod Cells
+pub mod Areas
 pub mod Telling
 pub mod Frames
 pub mod Moving

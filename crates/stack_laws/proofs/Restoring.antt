@@ -21,6 +21,7 @@ use Rattle.graph_runs.specs.RunTransitions.{after_call, returns_more, returns_so
 use Rattle.bound_laws.specs.Turning.{unasked, Calls}
 use Rattle.bound_laws.specs.Values.{IsRegister, Values, AreBytes}
 use Rattle.bound_laws.proofs.Laws.{At, Way, Onward, onward, over_edge, into_call, back_to, all_returns}
+use Rattle.stack_laws.specs.Areas.{IsLaidOut}
 use Rattle.stack_laws.specs.Stacks.{Stacks, View, view_of, IsRestored, IsStackInvariant, AreTold}
 use Rattle.stack_laws.specs.Laws.{ComesBackAt, RestoredRegistersHold}
 use Rattle.stack_laws.proofs.Naming.{mod_same}
@@ -77,7 +78,7 @@ module _ (env : Setting) (s : State) where
 -- ---- while a call is open, what its caller saw before it stays
 
 module _ (t : Text) (env : Setting) (ok : IsTextOf t env) (code : Code) (is : IsCodeOf (kind_at t) t.entry code) (fine : HasNoBadWord (kind_at t) t.entry)
-    (v : Values) (w : Stacks) (inv : IsStackInvariant t (text_graph t code) v w) (keyless : env.layout.keyed ≡ None) (input : All (λ x. x < 256) env.input) (s : State) where
+    (v : Values) (w : Stacks) (inv : IsStackInvariant t (text_graph t code) v w) (laid : IsLaidOut env.layout w.areas) (input : All (λ x. x < 256) env.input) (s : State) where
   abbrev g : Graph
   g = text_graph t code
 
@@ -87,7 +88,7 @@ module _ (t : Text) (env : Setting) (ok : IsTextOf t env) (code : Code) (is : Is
     begun : List ℕ
     sites : List ℕ
     within : List View
-    holds : Holds t env ok code is fine v w inv keyless input u at.calls begun (within ++ x ∷ others)
+    holds : Holds t env ok code is fine v w inv laid input u at.calls begun (within ++ x ∷ others)
     calls : at.calls ≡ sites ++ site ∷ outer
     even : length sites ≡ length within
     deep : length within + suc (length outer) ≡ length rs
@@ -111,8 +112,8 @@ module _ (t : Text) (env : Setting) (ok : IsTextOf t env) (code : Code) (is : Is
     stays : length outer < length qs → Open site outer x others next qs
     stays high = by_way on.way
       where
-        holds_after : (calls : List ℕ) (begun : List ℕ) (xs : List View) → on.at.calls ≡ calls → Holds t env ok code is fine v w inv keyless input next calls begun xs → Holds t env ok code is fine v w inv keyless input next on.at.calls begun xs
-        holds_after calls begun xs e h = subst (λ c. Holds t env ok code is fine v w inv keyless input next c begun xs) (sym e) h
+        holds_after : (calls : List ℕ) (begun : List ℕ) (xs : List View) → on.at.calls ≡ calls → Holds t env ok code is fine v w inv laid input next calls begun xs → Holds t env ok code is fine v w inv laid input next on.at.calls begun xs
+        holds_after calls begun xs e h = subst (λ c. Holds t env ok code is fine v w inv laid input next c begun xs) (sym e) h
 
         one_more : (a b r q : ℕ) → a + suc b ≡ r → q ≡ suc r → suc a + suc b ≡ q
         one_more a b r q e f = omega arith
@@ -136,7 +137,7 @@ module _ (t : Text) (env : Setting) (ok : IsTextOf t env) (code : Code) (is : Is
               begun = now.begun;
               sites = now.sites;
               within = now.within;
-              holds = holds_after now.at.calls now.begun (now.within ++ x ∷ others) same (over_holds t env ok code is fine v w inv keyless input u rs now.at y went on.at.over now.begun (now.within ++ x ∷ others) now.holds leads steps);
+              holds = holds_after now.at.calls now.begun (now.within ++ x ∷ others) same (over_holds t env ok code is fine v w inv laid input u rs now.at y went on.at.over now.begun (now.within ++ x ∷ others) now.holds leads steps);
               calls = same ∙ now.calls;
               even = now.even;
               deep = now.deep ∙ (size ∙ (sym (ap length same) ∙ sym size_after));
@@ -148,19 +149,19 @@ module _ (t : Text) (env : Setting) (ok : IsTextOf t env) (code : Code) (is : Is
               begun = next.regs;
               sites = u.pc ∷ now.sites;
               within = seen ∷ now.within;
-              holds = holds_after (u.pc ∷ now.at.calls) next.regs (seen ∷ now.within ++ x ∷ others) same (call_holds t env ok code is fine v w inv keyless input u rs now.at y went on.at.over now.begun (now.within ++ x ∷ others) now.holds moved call);
+              holds = holds_after (u.pc ∷ now.at.calls) next.regs (seen ∷ now.within ++ x ∷ others) same (call_holds t env ok code is fine v w inv laid input u rs now.at y went on.at.over now.begun (now.within ++ x ∷ others) now.holds moved call);
               calls = same ∙ ap (λ c. u.pc ∷ c) now.calls;
               even = ap suc now.even;
               deep = one_more (length now.within) (length outer) (length rs) (length qs) now.deep (size_after ∙ (ap length same ∙ ap suc (sym size)));
             }
         by_way (back_to z e to us calls same lt from returns call leads moved) =
-            let b = back_holds t env ok code is fine v w inv keyless input u rs now.at y went on.at.over now.begun (now.within ++ x ∷ others) now.holds z e us calls lt from returns leads in
+            let b = back_holds t env ok code is fine v w inv laid input u rs now.at y went on.at.over now.begun (now.within ++ x ∷ others) now.holds z e us calls lt from returns leads in
             pop now.within refl now.sites refl b.0 b.1 b.2 (holds_after us b.0.begun b.1 same b.3)
           where
             shorter : length rs ≡ suc (length qs)
             shorter = size ∙ (ap length calls ∙ (ap (λ c. suc (length c)) (sym same) ∙ ap suc (sym size_after)))
 
-            pop : (within : List View) → now.within ≡ within → (sites : List ℕ) → now.sites ≡ sites → (top : View) (rest : List View) → now.within ++ x ∷ others ≡ top ∷ rest → Holds t env ok code is fine v w inv keyless input next on.at.calls top.begun rest → Open site outer x others next qs
+            pop : (within : List View) → now.within ≡ within → (sites : List ℕ) → now.sites ≡ sites → (top : View) (rest : List View) → now.within ++ x ∷ others ≡ top ∷ rest → Holds t env ok code is fine v w inv laid input next on.at.calls top.begun rest → Open site outer x others next qs
             pop [] e sites q top rest f h = absurd (low (length now.within) (length outer) (length rs) (length qs) (ap length e) now.deep shorter high)
             pop (first ∷ more) e [] q top rest f h = absurd (uneven (length now.sites) (length now.within) (length more) (ap length q) (ap length e) now.even)
             pop (first ∷ more) e (c ∷ cs) q top rest f h =
@@ -173,14 +174,14 @@ module _ (t : Text) (env : Setting) (ok : IsTextOf t env) (code : Code) (is : Is
                   begun = top.begun;
                   sites = cs;
                   within = more;
-                  holds = subst (λ l. Holds t env ok code is fine v w inv keyless input next on.at.calls top.begun l) (sym tail) h;
+                  holds = subst (λ l. Holds t env ok code is fine v w inv laid input next on.at.calls top.begun l) (sym tail) h;
                   calls = same ∙ sym left;
                   even = both (length now.sites) (length now.within) (length cs) (length more) (ap length q) (ap length e) now.even;
                   deep = one_less (length now.within) (length more) (length outer) (length rs) (length qs) (ap length e) now.deep shorter;
                 }
 
     -- and when it comes back
-    comes : length qs ≡ length outer → Returned t env ok code is fine v w inv keyless input site x next
+    comes : length qs ≡ length outer → Returned t env ok code is fine v w inv laid input site x next
     comes even = by_way on.way
       where
         same_size : (a b r q : ℕ) → a + suc b ≡ r → r ≡ q → q ≡ b → ⊥
@@ -195,24 +196,24 @@ module _ (t : Text) (env : Setting) (ok : IsTextOf t env) (code : Code) (is : Is
         uneven : (a b c : ℕ) → b ≡ 0 → a ≡ suc c → a ≡ b → ⊥
         uneven a b c d e f = let bad : ⊥ = omega arith in bad
 
-        by_way : Way g u.pc next.pc now.at.calls on.at.calls y.moved → Returned t env ok code is fine v w inv keyless input site x next
+        by_way : Way g u.pc next.pc now.at.calls on.at.calls y.moved → Returned t env ok code is fine v w inv laid input site x next
         by_way (over_edge leads steps same moved) = absurd (same_size (length now.within) (length outer) (length rs) (length qs) now.deep (size ∙ (sym (ap length same) ∙ sym size_after)) even)
         by_way (into_call call same moved) = absurd (more_size (length now.within) (length outer) (length rs) (length qs) now.deep (size_after ∙ (ap length same ∙ ap suc (sym size))) even)
         by_way (back_to z e to us calls same lt from returns call leads moved) =
-            let b = back_holds t env ok code is fine v w inv keyless input u rs now.at y went on.at.over now.begun (now.within ++ x ∷ others) now.holds z e us calls lt from returns leads in
+            let b = back_holds t env ok code is fine v w inv laid input u rs now.at y went on.at.over now.begun (now.within ++ x ∷ others) now.holds z e us calls lt from returns leads in
             pop now.within refl now.sites refl b.0 b.1 b.2 b.4
           where
             shorter : length rs ≡ suc (length qs)
             shorter = size ∙ (ap length calls ∙ (ap (λ c. suc (length c)) (sym same) ∙ ap suc (sym size_after)))
 
-            pop : (within : List View) → now.within ≡ within → (sites : List ℕ) → now.sites ≡ sites → (top : View) (rest : List View) → now.within ++ x ∷ others ≡ top ∷ rest → Returned t env ok code is fine v w inv keyless input z top next →
-                Returned t env ok code is fine v w inv keyless input site x next
+            pop : (within : List View) → now.within ≡ within → (sites : List ℕ) → now.sites ≡ sites → (top : View) (rest : List View) → now.within ++ x ∷ others ≡ top ∷ rest → Returned t env ok code is fine v w inv laid input z top next →
+                Returned t env ok code is fine v w inv laid input site x next
             pop [] e [] q top rest f h =
                 let views : x ∷ others ≡ top ∷ rest = ap (λ l. l ++ x ∷ others) (sym e) ∙ f in
                 let head : x ≡ top = cc in
                 let whole : site ∷ outer ≡ z ∷ us = ap (λ l. l ++ site ∷ outer) (sym q) ∙ (sym now.calls ∙ calls) in
                 let place : site ≡ z = cc in
-                subst (λ o. Returned t env ok code is fine v w inv keyless input site o next) (sym head) (subst (λ n. Returned t env ok code is fine v w inv keyless input n top next) (sym place) h)
+                subst (λ o. Returned t env ok code is fine v w inv laid input site o next) (sym head) (subst (λ n. Returned t env ok code is fine v w inv laid input n top next) (sym place) h)
             pop [] e (c ∷ cs) q top rest f h = absurd (uneven (length now.sites) (length now.within) (length cs) (ap length e) (ap length q) now.even)
             pop (first ∷ more) e sites q top rest f h = absurd (high (length now.within) (length more) (length outer) (length rs) (length qs) (ap length e) now.deep shorter even)
 
@@ -246,7 +247,7 @@ module _ (t : Text) (env : Setting) (ok : IsTextOf t env) (code : Code) (is : Is
     begin : Inside (suc m)
     begin =
         let k = all_returns env s none m b.list b.returns in
-        let p = stands_at t env ok code is fine v w inv keyless input s over at_entry (unasked none) starts bytes m k.0 k.1 b.goes in
+        let p = stands_at t env ok code is fine v w inv laid input s over at_entry (unasked none) starts bytes m k.0 k.1 b.goes in
         by_list k.0.returns p.0 p.1.0 p.1.1 p.1.2 k.2
       where
         later : Listed env s (suc m)
@@ -258,7 +259,7 @@ module _ (t : Text) (env : Setting) (ok : IsTextOf t env) (code : Code) (is : Is
         u : State
         u = (run env s m).state
 
-        by_list : (rs : List ℕ) (at : At t u rs) (begun : List ℕ) (xs : List View) → Holds t env ok code is fine v w inv keyless input u at.calls begun xs → rs ≡ b.list → Inside (suc m)
+        by_list : (rs : List ℕ) (at : At t u rs) (begun : List ℕ) (xs : List View) → Holds t env ok code is fine v w inv laid input u at.calls begun xs → rs ≡ b.list → Inside (suc m)
         by_list rs at begun xs holds list = by_way on.way
           where
             on : Onward t env ok code is fine u (step env u).state at.calls later.0 b.step_is.moved
@@ -283,8 +284,8 @@ module _ (t : Text) (env : Setting) (ok : IsTextOf t env) (code : Code) (is : Is
                 begun = (step env u).state.regs;
                 sites = [];
                 within = [];
-                holds = subst (λ c. Holds t env ok code is fine v w inv keyless input (step env u).state c (step env u).state.regs (view_of w begun u.regs u.bytes ∷ xs)) (sym same)
-                    (call_holds t env ok code is fine v w inv keyless input u rs at b.step_is b.went on.at.over begun xs holds moved call);
+                holds = subst (λ c. Holds t env ok code is fine v w inv laid input (step env u).state c (step env u).state.regs (view_of w begun u.regs u.bytes ∷ xs)) (sym same)
+                    (call_holds t env ok code is fine v w inv laid input u rs at b.step_is b.went on.at.over begun xs holds moved call);
                 calls = same;
                 even = refl;
                 deep = first_depth (length at.calls) (length later.0) (lengths later.0 on.at.calls on.at.returns ∙ ap length same);
@@ -339,7 +340,7 @@ module _ (t : Text) (env : Setting) (ok : IsTextOf t env) (code : Code) (is : Is
             let list : b.list ≡ now.rs = some_same b.list now.rs (sym b.returns ∙ now.returns) in
             let same : last.0 ≡ back.after = some_same last.0 back.after (sym last.2 ∙ (ap (λ k. returns_so (run env s k).steps) (sym e) ∙ back.returned)) in
             let even : length last.0 ≡ length now.outer = ap length same ∙ (back.even ∙ sym now.depth) in
-            let r : Returned t env ok code is fine v w inv keyless input site now.x (step env (run env s i).state).state = comes site now.outer now.x now.others (run env s i).state now.rs last.0 b.step_is b.went (subst (λ l. returns_after l b.step_is ≡ Some last.0) list b.after) now.holds even in
+            let r : Returned t env ok code is fine v w inv laid input site now.x (step env (run env s i).state).state = comes site now.outer now.x now.others (run env s i).state now.rs last.0 b.step_is b.went (subst (λ l. returns_after l b.step_is ≡ Some last.0) list b.after) now.holds even in
             let state : (run env s n).state ≡ (step env (run env s i).state).state = ap (λ k. (run env s k).state) e ∙ b.state in
             (r.to, r.call, λ q reg_is res small. subst (λ y. reg y.regs q ≡ reg (run env s m).state.regs q) (sym state) (value now.x.regs (run env s m).state.regs (step env (run env s i).state).state.regs q now.regs (r.alike q reg_is res) small))
           where
@@ -349,5 +350,5 @@ module _ (t : Text) (env : Setting) (ok : IsTextOf t env) (code : Code) (is : Is
                 sym (mod_same (reg after q) (alike.1 low)) ∙ (alike.0 ∙ (mod_same (reg before q) low ∙ ap (λ l. reg l q) e))
 
 pub restored_registers_hold : RestoredRegistersHold
-restored_registers_hold t env s code v w start reached inv keyless starts bytes input m n call back =
-    restored t env start.text code reached.lists reached.words v w inv keyless input s start.state start.entry starts bytes m n call back
+restored_registers_hold t env s code v w start reached inv laid starts bytes input m n call back =
+    restored t env start.text code reached.lists reached.words v w inv laid input s start.state start.entry starts bytes m n call back

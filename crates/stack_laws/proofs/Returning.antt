@@ -1,5 +1,5 @@
 -- Returns go back behind their calls, where the tables say so of x1.
-use Rattle.std.proofs.Common.{◌≡◌, ◌≢◌, ℕ, zero, suc, ◌+◌, ◌-◌, ◌<◌, ◌≤◌, ◌%◌, ◌^◌, false, List, [], ◌∷◌, length, map, refl, sym, ap, ◌∙◌, subst, arith, Some, None}
+use Rattle.std.proofs.Common.{◌≡◌, ◌≢◌, ℕ, zero, suc, ◌+◌, ◌-◌, ◌<◌, ◌≤◌, ◌%◌, ◌^◌, false, List, [], ◌∷◌, length, map, refl, sym, ap, ◌∙◌, subst, arith, Some}
 use Rattle.std.specs.Prelude.{All}
 use Rattle.std.proofs.lemmas.Bool.{cond-true, eq-eqb}
 use Rattle.std.proofs.lemmas.List.{length-map}
@@ -27,6 +27,7 @@ use Rattle.graph_runs.specs.KeptRuns.{most_returns}
 use Rattle.bound_laws.specs.Turning.{unasked}
 use Rattle.bound_laws.specs.Values.{Values, AreBytes}
 use Rattle.bound_laws.proofs.Laws.{At, fetched, all_returns}
+use Rattle.stack_laws.specs.Areas.{IsLaidOut}
 use Rattle.stack_laws.specs.Stacks.{Stacks, View, view_of, IsNamed, IsStackInvariant, AreTold}
 use Rattle.stack_laws.specs.Stacks.Name.{of_begin}
 use Rattle.stack_laws.specs.Returning.{ComesBack}
@@ -39,7 +40,7 @@ back_behind : (value z : ℕ) → value % 2 ^ 32 ≡ ((z + 4) % 2 ^ 32 + 0) % 2 
 back_behind value z h aligned = omega arith
 
 module _ (t : Text) (env : Setting) (ok : IsTextOf t env) (code : Code) (is : IsCodeOf (kind_at t) t.entry code) (fine : HasNoBadWord (kind_at t) t.entry)
-    (v : Values) (w : Stacks) (inv : IsStackInvariant t (text_graph t code) v w) (comes : ComesBack t (text_graph t code) v w) (keyless : env.layout.keyed ≡ None) (input : All (λ x. x < 256) env.input) where
+    (v : Values) (w : Stacks) (inv : IsStackInvariant t (text_graph t code) v w) (comes : ComesBack t (text_graph t code) v w) (laid : IsLaidOut env.layout w.areas) (input : All (λ x. x < 256) env.input) where
   abbrev g : Graph
   g = text_graph t code
 
@@ -55,7 +56,7 @@ module _ (t : Text) (env : Setting) (ok : IsTextOf t env) (code : Code) (is : Is
       let same : comes.height (v.function pc) ≡ comes.height (v.function f.to) = ap comes.height f.function in
       omega arith
 
-  module _ (s : State) (rs : List ℕ) (at : At t s rs) (begun : List ℕ) (xs : List View) (holds : Holds t env ok code is fine v w inv keyless input s at.calls begun xs) (x : Stepped) (went : (step env s).end ≡ Went x) where
+  module _ (s : State) (rs : List ℕ) (at : At t s rs) (begun : List ℕ) (xs : List View) (holds : Holds t env ok code is fine v w inv laid input s at.calls begun xs) (x : Stepped) (went : (step env s).end ≡ Went x) where
     facts : (i : Instr) × (instr_at t s.pc ≡ Some i)
     facts = let k = kind_facts t s.pc (fine at.function s.pc at.reached) in (k.2.0, k.2.1)
 
@@ -104,7 +105,7 @@ module _ (t : Text) (env : Setting) (ok : IsTextOf t env) (code : Code) (is : Is
     short : (n : ℕ) (rs : List ℕ) → returns_so (run env s n).steps ≡ Some rs → (run env s n).standing ≡ GoesOn → length rs ≤ most_returns
     short n rs returns e =
         let k = all_returns env s none n rs returns in
-        let p = stands_at t env ok code is fine v w inv keyless input s over at_entry (unasked none) starts bytes n k.0 k.1 e in
+        let p = stands_at t env ok code is fine v w inv laid input s over at_entry (unasked none) starts bytes n k.0 k.1 e in
         let d : length p.0.calls + comes.height (v.function (run env s n).state.pc) ≤ comes.height (v.function t.entry) = deep (run env s n).state.pc p.1.0 (run env s n).state.bytes p.0.calls p.1.1 p.1.2.frames in
         let list : rs ≡ map after_call p.0.calls = sym k.2 ∙ p.0.returns in
         let size : length rs ≡ length p.0.calls = ap length list ∙ length-map p.0.calls after_call in
@@ -121,7 +122,7 @@ module _ (t : Text) (env : Setting) (ok : IsTextOf t env) (code : Code) (is : Is
         by_end : r.standing ≡ GoesOn → (end : StepEnd) → (step env r.state).end ≡ end → (run env s (suc n)) ≡ ended r.steps end (step env r.state).state → Fine (run env s (suc n))
         by_end e (Went x) q same =
             let k = all_returns env s none n ih.0 ih.1 in
-            let p = stands_at t env ok code is fine v w inv keyless input s over at_entry (unasked none) starts bytes n k.0 k.1 e in
+            let p = stands_at t env ok code is fine v w inv laid input s over at_entry (unasked none) starts bytes n k.0 k.1 e in
             let b = comes_back r.state k.0.returns p.0 p.1.0 p.1.1 p.1.2 x q in
             let last : returns_after ih.0 x ≡ Some b.0 = ap (λ y. returns_after y x) (sym k.2) ∙ b.1 in
             let whole : returns_so (run env s (suc n)).steps ≡ Some b.0 = ap (λ y. returns_so y.steps) same ∙ (fold-append returns_more (Some []) r.steps (x ∷ []) ∙ (ap (λ o. returns_more o x) ih.1 ∙ last)) in
@@ -143,5 +144,5 @@ module _ (t : Text) (env : Setting) (ok : IsTextOf t env) (code : Code) (is : Is
     fine_at (suc n) = more n (fine_at n)
 
 pub runs_come_back : RunsComeBack
-runs_come_back t env s code v w start reached inv comes keyless starts bytes input n =
-    fine_at t env start.text code reached.lists reached.words v w inv comes keyless input s start.state start.entry starts bytes n
+runs_come_back t env s code v w start reached inv comes laid starts bytes input n =
+    fine_at t env start.text code reached.lists reached.words v w inv comes laid input s start.state start.entry starts bytes n

@@ -23,6 +23,7 @@ use Rattle.bound_laws.specs.Turning.{unasked, Leads, Calls}
 use Rattle.bound_laws.specs.Values.{IsHeld, Values, IsRegister, AreBytes, Said, said, IsImpossible, keeps_of, keeps_at, passed, Steps}
 use Rattle.bound_laws.proofs.Laws.{steps_leave, steps_add, IsSo as SoOf, passed_in, so_behind, possible, step_bytes, At, Way, Onward, fetched, over_edge, into_call, back_to, KeptStep, along, all_returns, measure_adds, nothing_more}
 use Rattle.stack_laws.specs.Cells.{IsCellHeld}
+use Rattle.stack_laws.specs.Areas.{IsLaidOut}
 use Rattle.stack_laws.specs.Stacks.{Stacks, View, view_of, word_address, IsNamed, name_of, IsStoredFrom, IsMissed, IsSparing, IsCellKept, IsRestored, IsSafe, IsStackInvariant, AreTold}
 use Rattle.stack_laws.specs.Stacks.Name.{of_word}
 use Rattle.stack_laws.specs.Counting.{Counter, counted, HasRegisters, IsAdded}
@@ -32,6 +33,7 @@ use Rattle.std.proofs.lemmas.Nat.{mod_below}
 use Rattle.stack_laws.proofs.Covering.{IsSo}
 use Rattle.stack_laws.proofs.Stepping.{name_held, span_held, results, far_keeps, misses, spares, puts, gets, numbers}
 use Rattle.stack_laws.proofs.Cells.{cell_kept, reads}
+use Rattle.stack_laws.proofs.Areas.{accesses}
 use Rattle.stack_laws.proofs.Moving.{call_links}
 use Rattle.stack_laws.proofs.Frames.{Frame, Frames, IsLeft, AreAlike, step_frames, call_frames, return_frames, frame, alike, safe_is}
 
@@ -45,7 +47,7 @@ word_moved shift factor before after more e is adds =
     ap (λ n. (shift + factor * n) % 2 ^ 32) is ∙ (measure_adds (2 ^ 32) shift factor before more ∙ ap (λ n. ((shift + factor * before) % 2 ^ 32 + n) % 2 ^ 32) (sym adds))
 
 module _ (t : Text) (env : Setting) (ok : IsTextOf t env) (code : Code) (is : IsCodeOf (kind_at t) t.entry code) (fine : HasNoBadWord (kind_at t) t.entry)
-    (v : Values) (w : Stacks) (inv : IsStackInvariant t (text_graph t code) v w) (keyless : env.layout.keyed ≡ None) (input : All (λ x. x < 256) env.input) where
+    (v : Values) (w : Stacks) (inv : IsStackInvariant t (text_graph t code) v w) (laid : IsLaidOut env.layout w.areas) (input : All (λ x. x < 256) env.input) where
   -- at a state, within these calls, before which the functions that wait saw these views, in a function that began with these registers
   pub record Holds (u : State) (calls : List ℕ) (begun : List ℕ) (xs : List View) : Type 0 where
     pub told : AreTold v w u.pc (view_of w begun u.regs u.bytes)
@@ -83,30 +85,30 @@ module _ (t : Text) (env : Setting) (ok : IsTextOf t env) (code : Code) (is : Is
     leaves r h = kept r (subst (λ o. keeps_of r o ≡ true) facts.1 h)
 
     holds : (r : ℕ) → IsRegister r → IsHeld (passed i u.pc next.pc (v.at u.pc) r) (reg next.regs r)
-    holds r k = passed_in env keyless u (v.at u.pc) at.over.zero at.over.size now.told.registers.each now.memory i r x fetch went k
+    holds r k = passed_in env laid.keyless u (v.at u.pc) at.over.zero at.over.size now.told.registers.each now.memory i r x fetch went k
 
     adds : (m : Measure) (e : ℕ) → IsRegister m.register → IsRegister m.other → effect m i ≡ Some e → measured m next.regs ≡ (measured m u.regs + e) % 2 ^ 32
     adds m e a b does = steps_add env u x i m e fetch went (let z = at.over.size in let y = a.1 in omega arith) (let z = at.over.size in let y = b.1 in omega arith) does
 
-    so_of : (o : Option Said) → SoOf env keyless u (v.at u.pc) at.over.zero at.over.size now.told.registers.each now.memory o → IsSo u.regs o
+    so_of : (o : Option Said) → SoOf env laid.keyless u (v.at u.pc) at.over.zero at.over.size now.told.registers.each now.memory o → IsSo u.regs o
     so_of None h = tt
     so_of (Some y) h = h
 
     so : IsSo u.regs (said i u.pc next.pc)
-    so = so_of (said i u.pc next.pc) (so_behind env keyless u (v.at u.pc) at.over.zero at.over.size now.told.registers.each now.memory i x fetch went)
+    so = so_of (said i u.pc next.pc) (so_behind env laid.keyless u (v.at u.pc) at.over.zero at.over.size now.told.registers.each now.memory i x fetch went)
 
     none : IsImpossible (said i u.pc next.pc) (v.at u.pc) → ⊥
-    none h = possible env keyless u (v.at u.pc) at.over.zero at.over.size now.told.registers.each now.memory (said i u.pc next.pc) (so_behind env keyless u (v.at u.pc) at.over.zero at.over.size now.told.registers.each now.memory i x fetch went) h
+    none h = possible env laid.keyless u (v.at u.pc) at.over.zero at.over.size now.told.registers.each now.memory (said i u.pc next.pc) (so_behind env laid.keyless u (v.at u.pc) at.over.zero at.over.size now.told.registers.each now.memory i x fetch went) h
 
     bytes : AreBytes next.bytes
     bytes = step_bytes env input u now.memory
 
     left : (e : ℕ) → e < g.edges → g.source e ≡ u.pc → IsLeft t g v w inv u.pc begun u.bytes next.bytes
-    left e lt from k q spared place small above = spares env keyless v w inv.offsets u at.over.zero at.over.size begun now.told i fetch k q
+    left e lt from k q spared place small above = spares env laid.keyless v w inv.offsets u at.over.zero at.over.size begun now.told i fetch k q
         (subst (λ a. IsSparing v w a i k) from (inv.spares k e i lt (ap v.live from ∙ now.told.registers.live) (ap (w.spared k) from ∙ spared) (ap (instr_at t) from ∙ facts.1))) place small above
 
     cells : (e : ℕ) → e < g.edges → g.source e ≡ u.pc → (k : ℕ) → IsCellHeld (w.cell k) next.bytes
-    cells e lt from k = cell_kept env keyless v w inv.offsets u at.over.zero at.over.size begun now.told i fetch x went k
+    cells e lt from k = cell_kept env laid.keyless v w inv.offsets u at.over.zero at.over.size begun now.told i fetch x went k
         (subst (λ a. IsCellKept v a i (w.cell k)) from (inv.cells k e i lt (ap v.live from ∙ now.told.registers.live) (ap (instr_at t) from ∙ facts.1)))
 
     -- what the step adds to a counter
@@ -114,10 +116,10 @@ module _ (t : Text) (env : Setting) (ok : IsTextOf t env) (code : Code) (is : Is
     counts_on (in_registers m) e small does = steps_add env u x i m e fetch went (let z = at.over.size in let y = small.0 in omega arith) (let z = at.over.size in let y = small.1 in omega arith) (does i facts.1)
     counts_on (in_word k factor shift) e small does = ⊎_elim
         (λ (q : IsMissed v w u.pc i k × (e ≡ 0)).
-        word_left shift factor (word_at u.bytes (word_address w begun k)) (word_at next.bytes (word_address w begun k)) e (misses env keyless v w inv.offsets u at.over.zero at.over.size begun now.told i fetch k q.0) q.1)
+        word_left shift factor (word_at u.bytes (word_address w begun k)) (word_at next.bytes (word_address w begun k)) e (misses env laid.keyless v w inv.offsets u at.over.zero at.over.size begun now.told i fetch k q.0) q.1)
         (λ (q : (r : ℕ) × (more : ℕ) × IsStoredFrom w u.pc i k r × (name_of w u.pc r ≡ Some (of_word k more)) × (e ≡ factor * more % 2 ^ 32)).
-        let name : IsNamed (Some (of_word k q.1)) (view_of w begun u.regs u.bytes) (reg u.regs q.0) = subst (λ n. IsNamed n (view_of w begun u.regs u.bytes) (reg u.regs q.0)) q.3 (name_held env keyless v w inv.offsets u at.over.zero at.over.size begun now.told i fetch q.0) in
-        let is : word_at next.bytes (word_address w begun k) ≡ (word_at u.bytes (word_address w begun k) + q.1) % 2 ^ 32 = puts env keyless v w inv.offsets u at.over.zero at.over.size begun now.told i fetch x went k q.0 q.2 ∙ name.0 in
+        let name : IsNamed (Some (of_word k q.1)) (view_of w begun u.regs u.bytes) (reg u.regs q.0) = subst (λ n. IsNamed n (view_of w begun u.regs u.bytes) (reg u.regs q.0)) q.3 (name_held env laid.keyless v w inv.offsets u at.over.zero at.over.size begun now.told i fetch q.0) in
+        let is : word_at next.bytes (word_address w begun k) ≡ (word_at u.bytes (word_address w begun k) + q.1) % 2 ^ 32 = puts env laid.keyless v w inv.offsets u at.over.zero at.over.size begun now.told i fetch x went k q.0 q.2 ∙ name.0 in
         word_moved shift factor (word_at u.bytes (word_address w begun k)) (word_at next.bytes (word_address w begun k)) q.1 e is q.4) (does i facts.1)
 
     pub over_holds : Leads g u.pc next.pc → Steps g u.pc next.pc → Holds next at.calls begun xs
@@ -125,22 +127,24 @@ module _ (t : Text) (env : Setting) (ok : IsTextOf t env) (code : Code) (is : Is
       where
         both : AreTold v w next.pc (view_of w begun next.regs next.bytes) × Frames t g v w inv next.pc begun next.bytes at.calls xs
         both = step_frames t g v w inv u.pc next.pc i begun u.regs next.regs u.bytes next.bytes facts.1 kept holds adds so none at.over.zero at.over.size over.zero over.size now.told now.memory bytes
-            (misses env keyless v w inv.offsets u at.over.zero at.over.size begun now.told i fetch) (puts env keyless v w inv.offsets u at.over.zero at.over.size begun now.told i fetch x went)
-            (gets env keyless v w inv.offsets u at.over.zero at.over.size begun now.told i fetch x went) (numbers env keyless v w inv.offsets u at.over.zero at.over.size begun now.told i fetch x went)
-            (far_keeps env keyless v w inv.offsets u at.over.zero at.over.size begun now.told i fetch) (name_held env keyless v w inv.offsets u at.over.zero at.over.size begun now.told i fetch)
-            (span_held env keyless v w inv.offsets u at.over.zero at.over.size begun now.told i fetch) (results env keyless v w inv.offsets u at.over.zero at.over.size begun now.told i fetch x went)
-            (left leads.0 leads.1 leads.2) (cells leads.0 leads.1 leads.2) (reads env keyless v w inv.offsets u at.over.zero at.over.size begun now.told i fetch x went) at.calls xs leads steps now.frames
+            (misses env laid.keyless v w inv.offsets u at.over.zero at.over.size begun now.told i fetch) (puts env laid.keyless v w inv.offsets u at.over.zero at.over.size begun now.told i fetch x went)
+            (gets env laid.keyless v w inv.offsets u at.over.zero at.over.size begun now.told i fetch x went) (numbers env laid.keyless v w inv.offsets u at.over.zero at.over.size begun now.told i fetch x went)
+            (far_keeps env laid.keyless v w inv.offsets u at.over.zero at.over.size begun now.told i fetch) (name_held env laid.keyless v w inv.offsets u at.over.zero at.over.size begun now.told i fetch)
+            (span_held env laid.keyless v w inv.offsets u at.over.zero at.over.size begun now.told i fetch) (results env laid.keyless v w inv.offsets u at.over.zero at.over.size begun now.told i fetch x went)
+            (left leads.0 leads.1 leads.2) (cells leads.0 leads.1 leads.2) (reads env laid.keyless v w inv.offsets u at.over.zero at.over.size begun now.told i fetch x went)
+            (accesses env laid.keyless v w inv.offsets u at.over.zero at.over.size begun now.told i fetch laid x went) at.calls xs leads steps now.frames
 
     pub call_holds : x.moved ≡ Call → Calls g u.pc next.pc → Holds next (u.pc ∷ at.calls) next.regs (view_of w begun u.regs u.bytes ∷ xs)
     call_holds moved call = record { told = both.0; frames = both.1; memory = bytes }
       where
         both : AreTold v w next.pc (view_of w next.regs next.regs next.bytes) × Frames t g v w inv next.pc next.regs next.bytes (u.pc ∷ at.calls) (view_of w begun u.regs u.bytes ∷ xs)
         both = call_frames t g v w inv u.pc next.pc i begun u.regs next.regs u.bytes next.bytes facts.1 kept holds adds so none at.over.zero at.over.size over.zero over.size now.told now.memory bytes
-            (misses env keyless v w inv.offsets u at.over.zero at.over.size begun now.told i fetch) (puts env keyless v w inv.offsets u at.over.zero at.over.size begun now.told i fetch x went)
-            (gets env keyless v w inv.offsets u at.over.zero at.over.size begun now.told i fetch x went) (numbers env keyless v w inv.offsets u at.over.zero at.over.size begun now.told i fetch x went)
-            (far_keeps env keyless v w inv.offsets u at.over.zero at.over.size begun now.told i fetch) (name_held env keyless v w inv.offsets u at.over.zero at.over.size begun now.told i fetch)
-            (span_held env keyless v w inv.offsets u at.over.zero at.over.size begun now.told i fetch) (results env keyless v w inv.offsets u at.over.zero at.over.size begun now.told i fetch x went)
-            (left call.0 call.2 call.3) (cells call.0 call.2 call.3) (reads env keyless v w inv.offsets u at.over.zero at.over.size begun now.told i fetch x went) at.calls xs (call_links env u i fetch x went at.over.size moved) call now.frames
+            (misses env laid.keyless v w inv.offsets u at.over.zero at.over.size begun now.told i fetch) (puts env laid.keyless v w inv.offsets u at.over.zero at.over.size begun now.told i fetch x went)
+            (gets env laid.keyless v w inv.offsets u at.over.zero at.over.size begun now.told i fetch x went) (numbers env laid.keyless v w inv.offsets u at.over.zero at.over.size begun now.told i fetch x went)
+            (far_keeps env laid.keyless v w inv.offsets u at.over.zero at.over.size begun now.told i fetch) (name_held env laid.keyless v w inv.offsets u at.over.zero at.over.size begun now.told i fetch)
+            (span_held env laid.keyless v w inv.offsets u at.over.zero at.over.size begun now.told i fetch) (results env laid.keyless v w inv.offsets u at.over.zero at.over.size begun now.told i fetch x went)
+            (left call.0 call.2 call.3) (cells call.0 call.2 call.3) (reads env laid.keyless v w inv.offsets u at.over.zero at.over.size begun now.told i fetch x went)
+            (accesses env laid.keyless v w inv.offsets u at.over.zero at.over.size begun now.told i fetch laid x went) at.calls xs (call_links env u i fetch x went at.over.size moved) call now.frames
 
     -- at a return at least one call is open
     pub back_holds : (z e : ℕ) (us : List ℕ) → at.calls ≡ z ∷ us → e < g.edges → g.source e ≡ u.pc → g.returns e ≡ true → Leads g z next.pc → (y : View) × (rest : List View) × (xs ≡ y ∷ rest) × Holds next us y.begun rest × Returned z y next
@@ -203,8 +207,8 @@ module _ (t : Text) (env : Setting) (ok : IsTextOf t env) (code : Code) (is : Is
         subst (λ y. StandsBy y ((at : At t (run env s n).state d.returns) × I (run env s n).state at.calls d)) e all.1
 
 pub stack_values_hold : StackValuesHold
-stack_values_hold t env s code v w start reached inv keyless starts bytes input n rs returns e =
+stack_values_hold t env s code v w start reached inv laid starts bytes input n rs returns e =
     let l : Loops = record { loops = 0; header = λ k. 0; bound = λ k. 0; least_trips = λ k. 0; inside = λ k v. false } in
     let k = all_returns env s l n rs returns in
-    let p = stands_at t env start.text code reached.lists reached.words v w inv keyless input s start.state start.entry (unasked l) starts bytes n k.0 k.1 e in
+    let p = stands_at t env start.text code reached.lists reached.words v w inv laid input s start.state start.entry (unasked l) starts bytes n k.0 k.1 e in
     (p.1.0, p.1.2.told)

@@ -1,9 +1,7 @@
 -- Bounds that tables of the stack show, in one way or in the other, are kept.
-use Rattle.std.proofs.Common.{◌≡◌, ℕ, suc, ◌*◌, ◌/◌, ◌<◌, ◌≤◌, ◌⊎◌, ⊎_elim, length, refl, sym, ap, ◌∙◌, subst, arith, Some, None}
-use Rattle.std.specs.Prelude.{All, Option, option_map}
+use Rattle.std.proofs.Common.{◌≡◌, ℕ, suc, ◌*◌, ◌/◌, ◌<◌, ◌≤◌, ◌⊎◌, ⊎_elim, length, refl, sym, ap, ◌∙◌, subst, arith, Some}
+use Rattle.std.specs.Prelude.{All, Option}
 use Rattle.std.proofs.Math.Nat.{le-div_iff_mul-le}
-use Rattle.scale_base.specs.Image.{Image}
-use Rattle.scale_base.specs.Layout.{layout_of}
 use Rattle.scale_base.specs.declared.stepping.Move.{Move}
 use Rattle.scale_base.specs.declared.stepping.Move.TheVariants.{Local, Call, Return}
 use Rattle.scale_base.specs.State.{Setting, State}
@@ -20,9 +18,10 @@ use Rattle.graph_runs.proofs.Laws.{kept_parts, image_starts}
 use Rattle.bound_laws.specs.Turning.{unasked, with_bounds}
 use Rattle.bound_laws.specs.Values.{Values, AreBytes}
 use Rattle.bound_laws.proofs.Laws.{kept_too, not_broken, all_returns, kept_before, loaded_small}
+use Rattle.stack_laws.specs.Areas.{IsLaidOut}
 use Rattle.stack_laws.specs.Stacks.{Stacks, view_of, IsStackInvariant, AreTold}
 use Rattle.stack_laws.specs.Counting as counting
-use Rattle.stack_laws.proofs.Laws.{image_told, runs_come_back}
+use Rattle.stack_laws.proofs.Laws.{image_laid, image_told, runs_come_back}
 use Rattle.stack_laws.proofs.Laws.{stacks_bound_turns}
 use Rattle.turn_laws.specs.Relating.{IsInputWithin, IsShown, IsTurnShown}
 use Rattle.turn_laws.specs.Laws.{ShownBoundsAreKept, ShownBoundsAreKeptByReturns, RunsAreKept}
@@ -38,13 +37,13 @@ same_leaving l bounds Call pc next k = refl
 same_leaving l bounds Return pc next k = refl
 
 module _ (t : Text) (env : Setting) (s : State) (code : Code) (v : Values) (w : Stacks) (most : Option ℕ) (l : Loops) (start : IsStartOver t env s) (reached : IsReachedCode t code) (inv : IsStackInvariant t (text_graph t code) v w)
-    (keyless : env.layout.keyed ≡ None) (starts : AreTold v w s.pc (view_of w s.regs s.regs s.bytes)) (bytes : AreBytes s.bytes) (input : All (λ x. x < 256) env.input) (within : IsInputWithin most env.input) where
+    (laid : IsLaidOut env.layout w.areas) (starts : AreTold v w s.pc (view_of w s.regs s.regs s.bytes)) (bytes : AreBytes s.bytes) (input : All (λ x. x < 256) env.input) (within : IsInputWithin most env.input) where
   bounded : (k : ℕ) → IsShown t (text_graph t code) v w most l k → (n : ℕ) (d : Carried) → kept_at env s (unasked l) n ≡ Some d → d.counts k ≤ l.bound k
   bounded k has n d kept = ⊎_elim
       (λ (q : counting.IsShown t (text_graph t code) v w l k). few_turns (d.counts k) q.certificate.least q.certificate.width (l.bound k) q.positive
-      (stacks_bound_turns t env s code v w l k q.certificate start reached inv keyless starts bytes input q.is q.within n d kept) q.enough)
+      (stacks_bound_turns t env s code v w l k q.certificate start reached inv laid starts bytes input q.is q.within n d kept) q.enough)
       (λ (q : IsTurnShown t (text_graph t code) v w most l k). few_turns (d.counts k) q.certificate.least q.certificate.width (l.bound k) q.positive
-      (turns_bound t env s code v w most l k q.certificate start reached inv keyless starts bytes input within q.is n d kept) q.enough) has
+      (turns_bound t env s code v w most l k q.certificate start reached inv laid starts bytes input within q.is n d kept) q.enough) has
 
   pub kept_by_shown : ((k : ℕ) → k < l.loops → IsShown t (text_graph t code) v w most l k × (l.least_trips k ≡ 0)) → (n : ℕ) (d : Carried) → kept_at env s (unasked l) n ≡ Some d → kept_at env s l n ≡ Some d
   kept_by_shown has n d kept = kept_too l (unasked l) (λ c x. refl) env s
@@ -61,10 +60,6 @@ module _ (t : Text) (env : Setting) (s : State) (code : Code) (v : Values) (w : 
       (λ (b : IsShown t (text_graph t code) v w most l j). bounded j b (suc n) d (kept_too (unasked l) (with_bounds l bounds) (λ c x. refl) env s (λ n c d x whole k. refl) (suc n) d whole))
       (λ (low : bounds j ≤ l.bound j). let q : counts_after l c x j ≤ bounds j = p.2 j jl in let e : counts_after l c x j ≡ d.counts j = ap (λ f. f j) p.1 in let r : d.counts j ≤ l.bound j = omega arith in r) (has j jl))
       (λ j jl left. subst (λ f. l.least_trips j ≤ f j) p.1 (p.3 j jl (same_leaving l bounds x.moved x.pc x.next j ∙ left)))) n d kept
-
-no_key : (image : Image) → image.keyed_segment ≡ None → (layout_of image).keyed ≡ None
-unfolding layout_of
-no_key image e = ap (option_map (λ k. k.range)) e
 
 some_same : (x y : Carried) → Some x ≡ Some y → x ≡ y
 some_same x y e = let r : x ≡ y = cc in r
@@ -87,7 +82,7 @@ shown_kept file image levels input code v w most l bounds read small_file small_
     s = start_of image levels
 
     by : (m : ℕ) (d : Carried) → kept_at env s (with_bounds l bounds) m ≡ Some d → kept_at env s l m ≡ Some d
-    by m d h = kept_by_bounds (text_of image) env s code v w most l (image_starts file image levels input read) ana.reached ana.invariant (no_key image ana.plain) (image_told image levels code v w ana) (loaded_small file image read small_file) small_input within bounds which m d h
+    by m d h = kept_by_bounds (text_of image) env s code v w most l (image_starts file image levels input read) ana.reached ana.invariant (image_laid image code v w ana) (image_told image levels code v w ana) (loaded_small file image read small_file) small_input within bounds which m d h
 
 pub shown_by_returns : ShownBoundsAreKeptByReturns
 unfolding run_of
@@ -108,7 +103,7 @@ shown_by_returns file image levels input code v w most l read small_file small_i
     s = start_of image levels
 
     by : (m : ℕ) (d : Carried) → kept_at env s (unasked l) m ≡ Some d → kept_at env s l m ≡ Some d
-    by m d h = kept_by_shown (text_of image) env s code v w most l (image_starts file image levels input read) ana.reached ana.invariant (no_key image ana.plain) (image_told image levels code v w ana) (loaded_small file image read small_file) small_input within which m d h
+    by m d h = kept_by_shown (text_of image) env s code v w most l (image_starts file image levels input read) ana.reached ana.invariant (image_laid image code v w ana) (image_told image levels code v w ana) (loaded_small file image read small_file) small_input within which m d h
 
     here : (m : ℕ) → m ≤ n → (d : Carried) × (kept_at env s l m ≡ Some d) × (length d.returns ≤ most_returns)
     here m le =
@@ -120,4 +115,4 @@ pub runs_kept : RunsAreKept
 unfolding run_of
 runs_kept file image levels input code v w most l read small_file small_input within ana comes which n =
     shown_by_returns file image levels input code v w most l read small_file small_input within ana which n (λ m le.
-    runs_come_back (text_of image) (setting_of image levels input) (start_of image levels) code v w (image_starts file image levels input read) ana.reached ana.invariant comes (no_key image ana.plain) (image_told image levels code v w ana) (loaded_small file image read small_file) small_input m)
+    runs_come_back (text_of image) (setting_of image levels input) (start_of image levels) code v w (image_starts file image levels input read) ana.reached ana.invariant comes (image_laid image code v w ana) (image_told image levels code v w ana) (loaded_small file image read small_file) small_input m)

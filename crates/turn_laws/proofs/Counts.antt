@@ -1,5 +1,5 @@
 -- A loop with a certificate of turns turns no more often than its width allows.
-use Rattle.std.proofs.Common.{◌≡◌, ◌≢◌, ℕ, ◌+◌, ◌-◌, ◌*◌, ◌<◌, ◌≤◌, ◌^◌, ◌⊎◌, ⊎_elim, Bool, true, false, List, [], ◌∷◌, map, length, arith, refl, sym, ap, ◌∙◌, subst, Option, Some, None}
+use Rattle.std.proofs.Common.{◌≡◌, ◌≢◌, ℕ, ◌+◌, ◌*◌, ◌<◌, ◌≤◌, ◌^◌, ◌⊎◌, ⊎_elim, Bool, true, false, List, [], ◌∷◌, map, length, arith, refl, sym, ap, ◌∙◌, subst, Option, Some, None}
 use Rattle.std.specs.Prelude.{All}
 use Rattle.scale_base.specs.declared.instruction.Instr.{Instr}
 use Rattle.scale_base.specs.declared.stepping.Move.TheVariants.{Return}
@@ -22,6 +22,7 @@ use Rattle.graph_runs.proofs.Laws.{went_at}
 use Rattle.bound_laws.specs.Turning.{unasked, Leads}
 use Rattle.bound_laws.specs.Values.{IsHeld, IsImpossible, IsRegister, said, passed, Values, AreBytes, Steps}
 use Rattle.bound_laws.proofs.Laws.{KeptStep, At, Onward, Way, fetched, over_edge, into_call, back_to, along, site_small, site_back, passed_in, possible, so_behind, no_turns}
+use Rattle.stack_laws.specs.Areas.{IsLaidOut}
 use Rattle.stack_laws.specs.Stacks.{Stacks, View, view_of, IsRestored, IsSafe, IsStackInvariant, AreTold}
 use Rattle.stack_laws.proofs.Laws.{Holds, Returned, over_holds, call_holds, back_holds}
 use Rattle.turn_laws.specs.Relating.{Relation, IsRelated, IsWeaker, Place, TurnCertificate, IsTurnCertificate, IsRowBack, IsOwnBack, IsOwnOn, IsPlaceBack, IsPossible, IsUsed, IsEvident, IsInputWithin, consumed_by}
@@ -37,7 +38,7 @@ use Rattle.turn_laws.proofs.Turns.Mode.{at_level}
 use Rattle.turn_laws.proofs.Turns.Level.{within, elsewhere}
 
 module _ (t : Text) (env : Setting) (ok : IsTextOf t env) (code : Code) (is : IsCodeOf (kind_at t) t.entry code) (fine : HasNoBadWord (kind_at t) t.entry)
-    (v : Values) (w : Stacks) (inv : IsStackInvariant t (text_graph t code) v w) (keyless : env.layout.keyed ≡ None) (input : All (λ x. x < 256) env.input)
+    (v : Values) (w : Stacks) (inv : IsStackInvariant t (text_graph t code) v w) (laid : IsLaidOut env.layout w.areas) (input : All (λ x. x < 256) env.input)
     (s : State) (over : IsOverText t s) (at_entry : s.pc ≡ t.entry) (most : Option ℕ) (short : IsInputWithin most env.input) (l : Loops) (k : ℕ) (c : TurnCertificate)
     (cert : IsTurnCertificate t (text_graph t code) v w most (l.header k) (l.inside k) c)
     (starts : AreTold v w s.pc (view_of w s.regs s.regs s.bytes)) (bytes : AreBytes s.bytes) where
@@ -54,7 +55,7 @@ module _ (t : Text) (env : Setting) (ok : IsTextOf t env) (code : Code) (is : Is
   record Stands (u : State) (calls : List ℕ) (d : Carried) : Type 0 where
     begun : List ℕ
     views : List View
-    holds : Holds t env ok code is fine v w inv keyless input u calls begun views
+    holds : Holds t env ok code is fine v w inv laid input u calls begun views
     mode : Mode t g v w most h (l.inside k) c cert (Facts c) (few c) (fewer c) (left env u) u.pc calls views (d.counts k) (view_of w begun u.regs u.bytes)
 
   -- the count after a step, by where it comes from
@@ -69,13 +70,13 @@ module _ (t : Text) (env : Setting) (ok : IsTextOf t env) (code : Code) (is : Is
   at_most u = omega arith
 
   -- at the header a turn begins anew
-  anew : (u : State) (rs : List ℕ) (at : At t u rs) (calls : List ℕ) (begun : List ℕ) (xs : List View) → Holds t env ok code is fine v w inv keyless input u calls begun xs → u.pc ≡ h → Facts c (left env u) h 0 (view_of w begun u.regs u.bytes)
+  anew : (u : State) (rs : List ℕ) (at : At t u rs) (calls : List ℕ) (begun : List ℕ) (xs : List View) → Holds t env ok code is fine v w inv laid input u calls begun xs → u.pc ≡ h → Facts c (left env u) h 0 (view_of w begun u.regs u.bytes)
   anew u rs at calls begun xs holds e =
       fresh t g v w most h (l.inside k) c cert env.input short (left env u) (view_of w begun u.regs u.bytes) at.over.zero at.over.size (subst (λ a. AreTold v w a (view_of w begun u.regs u.bytes)) e holds.told) (at_most u)
 
   -- ---- over an edge of an instruction that is no call
   module _ (u : State) (rs : List ℕ) (at : At t u rs) (x : Stepped) (went : (step env u).end ≡ Went x) (ons : IsOverText t (step env u).state) (begun : List ℕ) (xs : List View)
-      (now : Holds t env ok code is fine v w inv keyless input u at.calls begun xs) (count : ℕ) (facts : Facts c (left env u) u.pc count (view_of w begun u.regs u.bytes)) (inside : c.body u.pc ≡ true) where
+      (now : Holds t env ok code is fine v w inv laid input u at.calls begun xs) (count : ℕ) (facts : Facts c (left env u) u.pc count (view_of w begun u.regs u.bytes)) (inside : c.body u.pc ≡ true) where
     abbrev next : State
     next = (step env u).state
 
@@ -89,7 +90,7 @@ module _ (t : Text) (env : Setting) (ok : IsTextOf t env) (code : Code) (is : Is
     fetch = fetched t env ok code is fine u rs at ∙ there.1
 
     held_behind : (r : ℕ) → IsRegister r → IsHeld (passed i u.pc next.pc (v.at u.pc) r) (reg next.regs r)
-    held_behind r q = passed_in env keyless u (v.at u.pc) at.over.zero at.over.size now.told.registers.each now.memory i r x fetch went q
+    held_behind r q = passed_in env laid.keyless u (v.at u.pc) at.over.zero at.over.size now.told.registers.each now.memory i r x fetch went q
 
     held_to : (b : ℕ) → next.pc ≡ b → (r : ℕ) → IsRegister r → IsHeld (passed i u.pc b (v.at u.pc) r) (reg next.regs r)
     held_to b same r q = subst (λ n. IsHeld (passed i u.pc n (v.at u.pc) r) (reg next.regs r)) same (held_behind r q)
@@ -97,7 +98,7 @@ module _ (t : Text) (env : Setting) (ok : IsTextOf t env) (code : Code) (is : Is
     used_so : (b : ℕ) → next.pc ≡ b → IsUsed v c u.pc i b → 0 < facts.start
     used_so b same q = ⊎_elim (λ (on : c.used u.pc ≡ true). facts.used on)
         (λ (e : IsEvident v c u.pc i b).
-        evident env keyless v w inv.offsets u at.over.zero at.over.size begun now.told i fetch x went c count facts b same (held_to b same) e) q
+        evident env laid.keyless v w inv.offsets u at.over.zero at.over.size begun now.told i fetch x went c count facts b same (held_to b same) e) q
 
     -- the word that is counted in, and what is left of the input
     own_over : (p : Place) (b : ℕ) → next.pc ≡ b → c.place ≡ p → IsOwnOn v w c u.pc i b p (c.own b) →
@@ -111,18 +112,18 @@ module _ (t : Text) (env : Setting) (ok : IsTextOf t env) (code : Code) (is : Is
       λ j e. let f : in_word q ≡ in_word j = sym same ∙ e in
           let f1 : q ≡ j = cc in
           subst (λ n. IsRelated (left env next) (c.own b) facts.start ((view_of w begun next.regs next.bytes).words n)) f1
-          (word_holds env keyless v w inv.offsets u at.over.zero at.over.size begun now.told i fetch x went c count facts q same (c.own b) over),
+          (word_holds env laid.keyless v w inv.offsets u at.over.zero at.over.size begun now.told i fetch x went c count facts q same (c.own b) over),
       λ e. let bad : in_word q ≡ in_input = sym same ∙ e in let no : ⊥ = cc in absurd no,
     )
     own_over in_input b to same over = (
       λ j e. let bad : in_input ≡ in_word j = sym same ∙ e in let no : ⊥ = cc in absurd no,
-      λ e. taken_holds env keyless v w inv.offsets u at.over.zero at.over.size begun now.told i fetch x went c count facts b (held_to b to) same (consumed_by (c.own b)) over,
+      λ e. taken_holds env laid.keyless v w inv.offsets u at.over.zero at.over.size begun now.told i fetch x went c count facts b (held_to b to) same (consumed_by (c.own b)) over,
     )
 
     possible_on : (b : ℕ) → next.pc ≡ b → IsPossible v u.pc i b
     possible_on b same h =
-        possible env keyless u (v.at u.pc) at.over.zero at.over.size now.told.registers.each now.memory (said i u.pc next.pc)
-        (so_behind env keyless u (v.at u.pc) at.over.zero at.over.size now.told.registers.each now.memory i x fetch went)
+        possible env laid.keyless u (v.at u.pc) at.over.zero at.over.size now.told.registers.each now.memory (said i u.pc next.pc)
+        (so_behind env laid.keyless u (v.at u.pc) at.over.zero at.over.size now.told.registers.each now.memory i x fetch went)
         (subst (λ n. IsImpossible (said i u.pc n) (v.at u.pc)) (sym same) h)
 
     over_passed : Leads g u.pc next.pc → Steps g u.pc next.pc → (told : AreTold v w next.pc (view_of w begun next.regs next.bytes)) → Passed (left env next) u.pc next.pc count (view_of w begun next.regs next.bytes)
@@ -134,11 +135,11 @@ module _ (t : Text) (env : Setting) (ok : IsTextOf t env) (code : Code) (is : Is
           turned t g v w most h (l.inside k) c cert env.input short q.0.0 (left env next) count facts.start (view_of w begun next.regs next.bytes) ons.zero ons.size
           (subst (λ a. AreTold v w a (view_of w begun next.regs next.bytes)) e told) facts.good
           (λ half. used_so h e (q.1 half))
-          (place_holds env keyless v w inv.offsets u at.over.zero at.over.size begun now.told i fetch x went c count facts h (held_to h e) c.place refl q.0.0 q.0.1) q.0.2;
+          (place_holds env laid.keyless v w inv.offsets u at.over.zero at.over.size begun now.told i fetch x went c count facts h (held_to h e) c.place refl q.0.0 q.0.1) q.0.2;
       on = λ other _ on. record {
         start = facts.start;
         good = facts.good;
-        rows = λ r q. row_on env keyless v w inv.offsets u at.over.zero at.over.size begun now.told i fetch x went c count facts r q now.memory next.pc refl (c.row next.pc r)
+        rows = λ r q. row_on env laid.keyless v w inv.offsets u at.over.zero at.over.size begun now.told i fetch x went c count facts r q now.memory next.pc refl (c.row next.pc r)
             (cert.along u.pc next.pc r i steps now.told.registers.live inside on other there.1 (possible_on next.pc refl) q);
         own = (owns on other steps).0;
         left = (owns on other steps).1;
@@ -152,7 +153,7 @@ module _ (t : Text) (env : Setting) (ok : IsTextOf t env) (code : Code) (is : Is
         owns on other steps = own_over c.place next.pc refl refl (cert.along_own u.pc next.pc i steps now.told.registers.live inside on other there.1 (possible_on next.pc refl))
 
   -- ---- behind a call
-  module _ (u : ℕ) (y : View) (next : State) (back : Returned t env ok code is fine v w inv keyless input u y next) (ons : IsOverText t next) (count : ℕ) (facts : Facts c (left env next) u count y) (inside : c.body u ≡ true) where
+  module _ (u : ℕ) (y : View) (next : State) (back : Returned t env ok code is fine v w inv laid input u y next) (ons : IsOverText t next) (count : ℕ) (facts : Facts c (left env next) u count y) (inside : c.body u ≡ true) where
     abbrev then : View
     then = view_of w y.begun next.regs next.bytes
 
@@ -233,26 +234,26 @@ module _ (t : Text) (env : Setting) (ok : IsTextOf t env) (code : Code) (is : Is
       counted_as : (o : Option ℕ) → source_of x.moved u.pc d.returns ≡ o → f.counts k ≡ count_step (unasked l) o (Some next.pc) d.counts k
       counted_as o e = count_is n d f x kept ∙ ap (λ q. count_step (unasked l) q (Some next.pc) d.counts k) e
 
-      stands : (calls : List ℕ) (count : ℕ) (begun : List ℕ) (xs : List View) → f.counts k ≡ count → on.at.calls ≡ calls → Holds t env ok code is fine v w inv keyless input next calls begun xs →
+      stands : (calls : List ℕ) (count : ℕ) (begun : List ℕ) (xs : List View) → f.counts k ≡ count → on.at.calls ≡ calls → Holds t env ok code is fine v w inv laid input next calls begun xs →
           Mode t g v w most h (l.inside k) c cert (Facts c) (few c) (fewer c) (left env next) next.pc calls xs count (view_of w begun next.regs next.bytes) → Stands next on.at.calls f
       stands calls count begun xs e q holds m = record {
         begun = begun;
         views = xs;
-        holds = subst (λ y. Holds t env ok code is fine v w inv keyless input next y begun xs) (sym q) holds;
+        holds = subst (λ y. Holds t env ok code is fine v w inv laid input next y begun xs) (sym q) holds;
         mode = subst (λ y. Mode t g v w most h (l.inside k) c cert (Facts c) (few c) (fewer c) (left env next) next.pc on.at.calls xs y (view_of w begun next.regs next.bytes)) (sym e)
             (subst (λ y. Mode t g v w most h (l.inside k) c cert (Facts c) (few c) (fewer c) (left env next) next.pc y xs count (view_of w begun next.regs next.bytes)) (sym q) m);
       }
 
       by_way : Way g u.pc next.pc at.calls on.at.calls x.moved → Stands next on.at.calls f
       by_way (over_edge leads steps after moved) =
-          let then = over_holds t env ok code is fine v w inv keyless input u d.returns at x kept.went on.at.over now.begun now.views now.holds leads steps in
+          let then = over_holds t env ok code is fine v w inv laid input u d.returns at x kept.went on.at.over now.begun now.views now.holds leads steps in
           stands at.calls (after_edge t g v w most h (l.inside k) c cert (Facts c) (few c) (fewer c) u.pc next.pc (d.counts k)) now.begun now.views (counted_as (Some u.pc) (ap (λ m. source_of m u.pc d.returns) moved)) after then
           (along_edge t g v w most h (l.inside k) c cert (Facts c) (few c) (fewer c) (left env u) (left env next) falls u.pc next.pc leads now.holds.told.registers.live at.calls now.views (d.counts k) (view_of w now.begun u.regs u.bytes) (view_of w now.begun next.regs next.bytes)
           (anew next f.returns on.at at.calls now.begun now.views then)
           (λ inside facts. over_passed u d.returns at x kept.went on.at.over now.begun now.views now.holds (d.counts k) facts inside leads steps then.told) now.mode)
       by_way (into_call call after moved) =
           let seen : View = view_of w now.begun u.regs u.bytes in
-          let then = call_holds t env ok code is fine v w inv keyless input u d.returns at x kept.went on.at.over now.begun now.views now.holds moved call in
+          let then = call_holds t env ok code is fine v w inv laid input u d.returns at x kept.went on.at.over now.begun now.views now.holds moved call in
           stands (u.pc ∷ at.calls) (after_call_to t g v w most h (l.inside k) c cert (Facts c) (few c) (fewer c) next.pc (d.counts k)) next.regs (seen ∷ now.views) (counted_as None (ap (λ m. source_of m u.pc d.returns) moved)) after then
           (along_call t g v w most h (l.inside k) c cert (Facts c) (few c) (fewer c) (left env u) (left env next) falls u.pc next.pc call now.holds.told.registers.live at.calls now.views seen (d.counts k) (view_of w next.regs next.regs next.bytes) at.over.zero
           (anew next f.returns on.at (u.pc ∷ at.calls) next.regs (seen ∷ now.views) then) now.mode)
@@ -261,7 +262,7 @@ module _ (t : Text) (env : Setting) (ok : IsTextOf t env) (code : Code) (is : Is
           let z_small : z < 2 ^ 32 = site_small t env ok code is fine at.function z us stack in
           let source : source_of x.moved u.pc d.returns ≡ Some z =
           ap (λ m. source_of m u.pc d.returns) moved ∙ (ap (λ y. source_of Return u.pc y) (at.returns ∙ ap (map after_call) before) ∙ ap Some (site_back z z_small)) in
-          let b = back_holds t env ok code is fine v w inv keyless input u d.returns at x kept.went on.at.over now.begun now.views now.holds z e us before lt from returns leads in
+          let b = back_holds t env ok code is fine v w inv laid input u d.returns at x kept.went on.at.over now.begun now.views now.holds z e us before lt from returns leads in
           stands us (after_edge t g v w most h (l.inside k) c cert (Facts c) (few c) (fewer c) z next.pc (d.counts k)) b.0.begun b.1 (counted_as (Some z) source) after b.3
           (along_return t g v w most h (l.inside k) c cert (Facts c) (few c) (fewer c) (left env u) (left env next) falls u.pc z next.pc b.4.to leads b.4.call b.4.told.registers.live us b.1 b.0 (d.counts k) (view_of w now.begun u.regs u.bytes) (view_of w b.0.begun next.regs next.bytes)
           (anew next f.returns on.at us b.0.begun b.1 b.3)
@@ -287,5 +288,5 @@ module _ (t : Text) (env : Setting) (ok : IsTextOf t env) (code : Code) (is : Is
       (λ u calls d m. turned_so t g v w most h (l.inside k) c cert (Facts c) (few c) (fewer c) (left env u) u.pc calls m.views (d.counts k) (view_of w m.begun u.regs u.bytes) m.mode) goes n d kept).0
 
 pub turns_bound : TurnCertificatesBoundTurns
-turns_bound t env s code v w most l k c start reached inv keyless starts bytes input short cert n d kept =
-    counts_within t env start.text code reached.lists reached.words v w inv keyless input s start.state start.entry most short l k c cert starts bytes n d kept
+turns_bound t env s code v w most l k c start reached inv laid starts bytes input short cert n d kept =
+    counts_within t env start.text code reached.lists reached.words v w inv laid input s start.state start.entry most short l k c cert starts bytes n d kept

@@ -1,5 +1,5 @@
 -- Scaffold: the laws of turns, as statements for the contracts of functions.
-use Rattle.std.specs.Prelude.{◌≡◌, ℕ, ◌*◌, ◌<◌, ◌≤◌, ◌⊎◌, All, List, length, Option, Some, None, Ok}
+use Rattle.std.specs.Prelude.{◌≡◌, ℕ, ◌*◌, ◌<◌, ◌≤◌, ◌⊎◌, All, List, length, Option, Some, Ok}
 use Rattle.scale_base.specs.State.{Setting, State}
 use Rattle.scale_base.specs.Image.{Image, image_of}
 use Rattle.scale_base.specs.Run.{run_of}
