@@ -25,7 +25,7 @@ struct Copied {
 }
 
 // A register that is so much more than another one, where both may be in a form.
-fn copied(to: u8, from: u8, is_sum: bool) -> Option<Copied> {
+fn copy_between(to: u8, from: u8, is_sum: bool) -> Option<Copied> {
     if to > 2 && from > 2 && to != from {
         Some(Copied { to, from, is_sum })
     } else {
@@ -41,13 +41,13 @@ fn copies_of(i: Instr) -> [Option<Copied>; 2] {
             rd,
             rs1,
             imm: _,
-        } => [copied(rd, rs1, false), None],
+        } => [copy_between(rd, rs1, false), None],
         Instr::Reg {
             op: RegOp::Add,
             rd,
             rs1,
             rs2,
-        } if rd != rs1 && rd != rs2 => [copied(rd, rs1, true), copied(rd, rs2, true)],
+        } if rd != rs1 && rd != rs2 => [copy_between(rd, rs1, true), copy_between(rd, rs2, true)],
         _ => [None; 2],
     }
 }
