@@ -1,7 +1,8 @@
-//! The forms by which a test of a register says something of another one that is a copy of it, or so much more.
+//! The forms by which a test of a register, or an access through it, says something of another one that is a copy of it, or so much more.
 
 ghost use Rattle.std.specs.Prelude.{◌<◌};
 
+use crate::areas::access_of;
 use crate::forms::{Forms, difference};
 use crate::program::Program;
 use crate::ways::WayKind;
@@ -15,23 +16,39 @@ const MOST_NODES: usize = 48;
 /// How many copies are looked at.
 const MOST_COPIES: usize = 65_536;
 
-/// Two registers of which one is so much more than the other.
+/// Two registers of which one is so much more than the other: by a number, or by what a third one holds.
 #[derive(Clone, Copy)]
 struct Copied {
     to: u8,
     from: u8,
+    is_sum: bool,
 }
 
-// The copy that an instruction makes.
-fn copy_of(i: Instr) -> Option<Copied> {
+// A register that is so much more than another one, where both may be in a form.
+fn copy_between(to: u8, from: u8, is_sum: bool) -> Option<Copied> {
+    if to > 2 && from > 2 && to != from {
+        Some(Copied { to, from, is_sum })
+    } else {
+        None
+    }
+}
+
+// The copies that an instruction makes.
+fn copies_of(i: Instr) -> [Option<Copied>; 2] {
     match i {
         Instr::Imm {
             op: ImmOp::Addi,
             rd,
             rs1,
             imm: _,
-        } if rd > 2 && rs1 > 2 && rd != rs1 => Some(Copied { to: rd, from: rs1 }),
-        _ => None,
+        } => [copy_between(rd, rs1, false), None],
+        Instr::Reg {
+            op: RegOp::Add,
+            rd,
+            rs1,
+            rs2,
+        } if rd != rs1 && rd != rs2 => [copy_between(rd, rs1, true), copy_between(rd, rs2, true)],
+        _ => [None; 2],
     }
 }
 
@@ -66,12 +83,28 @@ impl Behind {
 
     // Notes a test at the node of a place.
     fn note_test(&mut self, i: Instr, place: usize) {
+        if self.copy.is_sum {
+            return;
+        }
         if let Instr::Branch { rs1, rs2, .. } = i {
             if rs1 == self.copy.from || rs2 == self.copy.from {
                 self.tested_from = place.saturating_add(1);
             }
             if rs1 == self.copy.to || rs2 == self.copy.to {
                 self.tested_to = place.saturating_add(1);
+            }
+        }
+    }
+
+    // Notes a load or a store by the copy, behind which the nodes are up to a place.
+    fn note_access(&mut self, i: Instr, place: usize) {
+        if let Some(access) = access_of(i) {
+            let is_left = keeps(access.register, i);
+            if is_left && access.register == self.copy.from && !self.copy.is_sum {
+                self.tested_from = place;
+            }
+            if is_left && access.register == self.copy.to {
+                self.tested_to = place;
             }
         }
     }
@@ -109,6 +142,7 @@ impl Behind {
                 }
             }
         }
+        self.note_access(node.instr, self.nodes.len());
         Ok(())
     }
 
@@ -135,30 +169,48 @@ impl Behind {
 
 // Looks for the forms of a copy at a node.
 fn add_copy(
+    forms: &mut Forms,
+    program: &Program,
+    seen: &mut [usize],
+    k: usize,
+    behind: &mut Behind,
+) -> Result<(), NoMemory> {
+    behind.add(seen, k.saturating_add(1))?;
+    for place in 0..MOST_NODES {
+        behind.look_at(program, seen, place)?;
+    }
+    let copy = behind.copy;
+    behind.want(forms, copy.to, copy.from, behind.tested_from)?;
+    behind.want(forms, copy.from, copy.to, behind.tested_to)
+}
+
+// Looks for the forms of the copies at a node.
+fn add_copies_at(
     alloc: Global,
     forms: &mut Forms,
     program: &Program,
     seen: &mut [usize],
     k: usize,
 ) -> Result<(), NoMemory> {
-    let Some(copy) = program.node(k).and_then(|node| copy_of(node.instr)) else {
+    let Some(node) = program.node(k) else {
         return Ok(());
     };
-    let behind_it = k.saturating_add(1);
-    let mut behind = Behind {
-        copy,
-        number: behind_it,
-        nodes: Vec::new(alloc),
-        tested_from: 0,
-        tested_to: 0,
-        joined: false,
-    };
-    behind.add(seen, behind_it)?;
-    for place in 0..MOST_NODES {
-        behind.look_at(program, seen, place)?;
+    let mut number = k.saturating_mul(2);
+    for copy in copies_of(node.instr) {
+        number = number.saturating_add(1);
+        if let Some(copy) = copy {
+            let mut behind = Behind {
+                copy,
+                number,
+                nodes: Vec::new(alloc),
+                tested_from: 0,
+                tested_to: 0,
+                joined: false,
+            };
+            add_copy(forms, program, seen, k, &mut behind)?;
+        }
     }
-    behind.want(forms, copy.to, copy.from, behind.tested_from)?;
-    behind.want(forms, copy.from, copy.to, behind.tested_to)
+    Ok(())
 }
 
 // The difference of two registers that an instruction writes.
@@ -207,7 +259,7 @@ pub fn add_copies(alloc: Global, forms: &mut Forms, program: &Program) -> Result
     let mut seen = vec![in alloc; 0usize; program.nodes.len()]?;
     for k in 0..program.nodes.len() {
         if forms.forms.len() < MOST_COPIES {
-            add_copy(alloc, forms, program, &mut seen, k)?;
+            add_copies_at(alloc, forms, program, &mut seen, k)?;
         }
     }
     Ok(())

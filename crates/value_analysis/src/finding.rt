@@ -11,7 +11,7 @@ use crate::narrowing::narrow;
 use crate::program::{Program, read_program};
 use crate::rows::{copy_of, unknown};
 use crate::shifting::{measures_of, shift_lines, shifts_of};
-use crate::sparing::{kept_place, spare};
+use crate::sparing::{added_span, kept_place, spare};
 use crate::states::{State, facts_of};
 use crate::tables::Tables;
 use elf_image::ImageView;
@@ -52,8 +52,22 @@ fn spared_nodes(alloc: Global, growth: &Growth<'_>, any: bool) -> Result<Vec<boo
     Ok(spared)
 }
 
+// Adds the spans that are known by intervals.
+fn add_spans(growth: &mut Growth<'_>) {
+    for k in 0..growth.facts.len() {
+        if let Some((r, arc)) = added_span(growth, k) {
+            let place = usize::from(r);
+            if place < 32 {
+                growth.facts[k].spans[place] = Some(arc);
+            }
+        }
+    }
+}
+
 // The tables that have grown.
 fn tables_of(alloc: Global, growth: Growth<'_>) -> Result<Tables, NoMemory> {
+    let mut growth = growth;
+    add_spans(&mut growth);
     let mut tables = Tables::none(alloc);
     tables.stack.place = kept_place(&growth);
     tables.stack.spared = spared_nodes(alloc, &growth, tables.stack.place.is_some())?;
@@ -68,6 +82,7 @@ fn tables_of(alloc: Global, growth: Growth<'_>) -> Result<Tables, NoMemory> {
         tables.add_node(facts)?;
     }
     tables.values.forms = measures_of(alloc, forms, &shifts)?;
+    tables.stack.areas = growth.areas;
     tables.values.live = growth.live;
     Ok(tables)
 }
@@ -157,7 +172,9 @@ impl Analysed<'_> {
         let mut growth = Growth::new(alloc, self.program, self.forms, self.view, cells)?;
         let mut state = State::blank();
         if !find_states(alloc, &mut growth, &mut state)? {
-            return blank_tables(alloc, nodes, self.program.entries.len());
+            let mut tables = blank_tables(alloc, nodes, self.program.entries.len())?;
+            tables.stack.areas = growth.areas;
+            return Ok(tables);
         }
         tables_of(alloc, growth)
     }

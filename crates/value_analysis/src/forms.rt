@@ -2,12 +2,14 @@
 
 ghost use Rattle.std.specs.Prelude.{◌<◌};
 
+use crate::arcs::only;
 use crate::befores::before;
 use crate::passing::is_restorable;
 use crate::program::Program;
 use crate::ways::{Way, WayKind};
 use scale_base::NoMemory;
 use std::alloc::Global;
+use value_checks::Line;
 use wrapped_intervals::{Measure, effect};
 
 /// How many forms are looked at before a node at most.
@@ -102,6 +104,18 @@ impl Forms {
     /// The form of a number.
     pub fn form(&self, j: usize) -> Option<Form> {
         self.forms.get(j).copied()
+    }
+
+    /// The register that a line of a difference with another one is of, and the number up to which it may go, where the other one may go up to a limit and
+    /// the line is one number.
+    pub fn solved(&self, line: &Line, other: u8, limit: u32) -> Option<(u8, u32)> {
+        let m = self.form(line.form)?.measure;
+        let apart = only(Some(line.arc))?;
+        if is_same_sum(m, difference(m.register, other)) {
+            Some((m.register, limit.wrapping_add(apart).wrapping_sub(m.shift)))
+        } else {
+            None
+        }
     }
 
     /// Those that are looked for before a node.

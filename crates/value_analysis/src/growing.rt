@@ -4,6 +4,7 @@ ghost use Rattle.std.specs.Prelude.{◌<◌};
 
 use crate::apart::raised;
 use crate::arcs::holds;
+use crate::areas::{access_of, areas_of};
 use crate::calls::{CallSite, Callee, come_back, enter};
 use crate::cells::Cells;
 use crate::forms::Forms;
@@ -19,7 +20,7 @@ use crate::states::{Facts, State, WORD_COUNT, facts_of};
 use crate::stores::arc_of;
 use crate::tables::Row;
 use crate::telling::{Telling, comparison_of, put_told, untold_nodes};
-use crate::thresholds::{Threshold, add_ends};
+use crate::thresholds::{Threshold, add_ends, add_limit};
 use crate::ways::{Way, WayKind};
 use elf_image::ImageView;
 use scale_base::{Instr, NoMemory};
@@ -100,6 +101,8 @@ pub struct Growth<'a> {
     pub view: &'a ImageView<'a>,
     /// Numbers in memory.
     pub cells: Cells,
+    /// Where loads and stores may be.
+    pub areas: Vec<Arc>,
     /// By node.
     pub live: Vec<bool>,
     pub facts: Vec<Facts>,
@@ -148,6 +151,7 @@ impl<'a> Growth<'a> {
             forms,
             view,
             cells,
+            areas: areas_of(alloc, view)?,
             live: vec![in alloc; false; nodes]?,
             untold: untold_nodes(alloc, program, &places)?,
             places,
@@ -239,7 +243,7 @@ impl<'a> Growth<'a> {
         let (Some(step), Some(from)) = (self.step(node, way), self.facts.get(way.from)) else {
             return false;
         };
-        if !pass(step, from, self.begins(node.function), to) {
+        if !pass(step, from, self.begins(node.function), &self.areas, to) {
             return false;
         }
         self.tell(step, from, way, to);
@@ -548,12 +552,71 @@ impl<'a> Growth<'a> {
         self.note_truth(&node, k)
     }
 
+    // Takes a number up to which a register may go as a threshold, of the register and of the word from which its value comes.
+    fn note_limit(
+        &mut self,
+        f: usize,
+        register: u8,
+        name: Option<Name>,
+        limit: u32,
+    ) -> Result<(), NoMemory> {
+        if f >= self.thresholds.len() {
+            return Ok(());
+        }
+        let thresholds = &mut self.thresholds[f];
+        add_limit(thresholds, register, limit)?;
+        match name {
+            Some(Name::OfWord(k, more)) => {
+                add_limit(thresholds, word_key(k as usize), limit.wrapping_sub(more))
+            }
+            _ => Ok(()),
+        }
+    }
+
+    // Takes what a line of a register and another one, which may go up to a number, says of the register as a threshold.
+    fn note_solved(&mut self, k: usize, f: usize, other: u8, limit: u32) -> Result<(), NoMemory> {
+        let Some(facts) = self.facts.get(k) else {
+            return Ok(());
+        };
+        if f >= self.thresholds.len() {
+            return Ok(());
+        }
+        let thresholds = &mut self.thresholds[f];
+        for line in &facts.lines {
+            if let Some((r, word)) = self.forms.solved(line, other, limit) {
+                add_limit(thresholds, r, word)?;
+            }
+        }
+        Ok(())
+    }
+
+    // Takes the ends of the area in which a load or a store is as thresholds.
+    fn note_access(&mut self, k: usize) -> Result<(), NoMemory> {
+        let (Some(node), Some(facts)) = (self.program.node(k), self.facts.get(k)) else {
+            return Ok(());
+        };
+        let Some(access) = access_of(node.instr) else {
+            return Ok(());
+        };
+        let register = access.register;
+        let name = name_of(&facts.names, register);
+        let Some(limits) = access.limits(&self.areas, &facts.row) else {
+            return Ok(());
+        };
+        for limit in [limits.below, limits.behind] {
+            self.note_limit(node.function, register, name, limit)?;
+            self.note_solved(k, node.function, register, limit)?;
+        }
+        Ok(())
+    }
+
     // Looks at the ways of a node.
     fn look_at(&mut self, k: usize, state: &mut State) -> Result<(), NoMemory> {
         if k < self.waits.len() {
             self.waits[k] = false;
         }
         self.note_comparison(k)?;
+        self.note_access(k)?;
         look_at_memory(self, k)?;
         let program = self.program;
         if let Some(node) = program.node(k) {

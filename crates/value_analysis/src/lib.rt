@@ -6,6 +6,7 @@
 
 mod apart;
 mod arcs;
+mod areas;
 mod befores;
 mod calls;
 mod cells;

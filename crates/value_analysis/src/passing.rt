@@ -4,6 +4,7 @@ ghost use Rattle.std.specs.Prelude.{◌≡◌, ◌<◌};
 
 use crate::apart::{raised, summed};
 use crate::arcs::{only, shorter};
+use crate::areas::{Access, access_of};
 use crate::names::{begun_name, name_of, offset_of, raised_name};
 use crate::rows::{passed_row, passed_word};
 use crate::states::{Facts, State, UNKNOWN_WORD};
@@ -201,6 +202,31 @@ impl Passing<'_> {
         }
     }
 
+    // Takes what an interval says of a register that is left, for the word from which its value comes.
+    fn tie_word(&self, r: u8, arc: Option<Arc>, to: &mut State) {
+        let Some(Name::OfWord(k, more)) = name_of(&self.from.names, r) else {
+            return;
+        };
+        let k = k as usize;
+        if self.misses(k) {
+            let mut word = to.word(k);
+            word.arc = shorter(raised(arc, more.wrapping_neg()), word.arc);
+            to.set_word(k, word);
+        }
+    }
+
+    // Takes what an access says of its register, and of the word from which the register's value comes.
+    fn cut(&self, access: Access, areas: &[Arc], to: &mut State) {
+        let arc = access.held(areas, &self.from.row);
+        let r = usize::from(access.register);
+        if 0 < r && r < 32 && arc.is_some() {
+            if keeps(access.register, self.step.instr) {
+                to.row[r] = shorter(arc, to.row[r]);
+            }
+            self.tie_word(access.register, arc, to);
+        }
+    }
+
     // Takes what a branch says of a register, whose value comes from a word, for the word too.
     fn tie(&self, r: u8, to: &mut State) {
         let Some(Name::OfWord(k, more)) = name_of(&self.from.names, r) else {
@@ -217,8 +243,8 @@ impl Passing<'_> {
     }
 }
 
-/// What an instruction that is no call leaves on the way to an address. Whether a state goes there.
-pub fn pass(step: Step, from: &Facts, begins: Option<Arc>, to: &mut State) -> bool {
+/// What an instruction that is no call leaves on the way to an address, with where loads and stores may be. Whether a state goes there.
+pub fn pass(step: Step, from: &Facts, begins: Option<Arc>, areas: &[Arc], to: &mut State) -> bool {
     let Some(row) = passed_row(step.instr, step.at, step.next, &from.row) else {
         return false;
     };
@@ -237,6 +263,9 @@ pub fn pass(step: Step, from: &Facts, begins: Option<Arc>, to: &mut State) -> bo
         to.spans[k] = passing.span(r);
     }
     passing.put_words(to);
+    if let Some(access) = access_of(step.instr) {
+        passing.cut(access, areas, to);
+    }
     if let Instr::Branch {
         op: _,
         rs1,

@@ -5,9 +5,9 @@ ghost use Rattle.std.specs.Prelude.{◌<◌};
 use crate::apart::raised;
 use crate::arcs::{holds, joined};
 use crate::growing::Growth;
-use crate::program::Node;
+use crate::program::{Node, Program};
 use crate::states::{State, UNKNOWN_WORD};
-use crate::stores::{Target, target_of, word_offset};
+use crate::stores::{Target, span_by_interval, target_of, word_offset};
 use crate::ways::{Way, WayKind};
 use scale_base::NoMemory;
 use stack_tables::{Name, Word};
@@ -81,10 +81,46 @@ pub fn kept_place(growth: &Growth<'_>) -> Option<Arc> {
     place
 }
 
+// Whether a node is come to by steps alone: spans may be by intervals there.
+fn is_stepped_to(program: &Program, k: usize) -> bool {
+    if k == program.start() {
+        return false;
+    }
+    let mut next = program.last_way_to(k);
+    for _ in 0..program.ways.len() {
+        let Some(way) = next.and_then(|w| program.way(w)) else {
+            break;
+        };
+        if !matches!(&way.kind, WayKind::Step) {
+            return false;
+        }
+        next = way.beside;
+    }
+    true
+}
+
+/// The span of the register by which a node stores, by its interval, where it is known by that alone.
+pub fn added_span(growth: &Growth<'_>, k: usize) -> Option<(u8, Arc)> {
+    let node = growth.program.node(k)?;
+    let facts = growth.facts.get(k)?;
+    let begins = growth.begins(node.function);
+    let span = span_by_interval(node.instr, &facts.row, &facts.spans, &begins)?;
+    if growth.is_live(k) && is_stepped_to(growth.program, k) {
+        Some(span)
+    } else {
+        None
+    }
+}
+
 // Where a node stores, if it does.
 fn target_at(growth: &Growth<'_>, node: &Node, k: usize) -> Option<Target> {
     let facts = growth.facts.get(k)?;
-    target_of(node.instr, &facts.row, &facts.names, &facts.spans)
+    let target = target_of(node.instr, &facts.row, &facts.names, &facts.spans)?;
+    if is_stepped_to(growth.program, k) {
+        Some(target.spanned(&growth.begins(node.function)))
+    } else {
+        Some(target)
+    }
 }
 
 // Whether a call is of a function that spares the words of those that wait.

@@ -1,7 +1,7 @@
 //! What instructions store to, and what they load.
 
 use crate::apart::{are_apart, are_below, is_below, opposite_of, raised};
-use crate::arcs::{WORDS, ahead, kept};
+use crate::arcs::{WORDS, ahead, kept, only};
 use crate::names::{Names, name_of, offset_of};
 use crate::tables::Row;
 use scale_base::{Instr, LoadOp, StoreOp};
@@ -146,7 +146,38 @@ fn is_apart(at: u32, width: u64, other: u32) -> bool {
     width <= u64::from(other.wrapping_sub(at)) && at.wrapping_sub(other) >= 4
 }
 
+// How far above a number that x2 had when the function began an interval is, where that is one number.
+fn above(arc: Option<Arc>, begins: &Option<Arc>) -> Option<Arc> {
+    raised(arc, only(*begins)?.wrapping_neg())
+}
+
+/// How far above the function's first x2 the register points by which an instruction stores, by its interval, where the register's span isn't known.
+pub fn span_by_interval(
+    i: Instr,
+    row: &Row,
+    spans: &Row,
+    begins: &Option<Arc>,
+) -> Option<(u8, Arc)> {
+    let r = match i {
+        Instr::Store { rs1, .. } => rs1,
+        Instr::Ecall => 11,
+        _ => return None,
+    };
+    if r == 0 || span_of(spans, r).is_some() {
+        return None;
+    }
+    Some((r, above(arc_of(row, r), begins)?))
+}
+
 impl Target {
+    /// The same with its span by its addresses, where that isn't known.
+    pub fn spanned(self, begins: &Option<Arc>) -> Target {
+        Target {
+            span: self.span.or(above(self.arc, begins)),
+            ..self
+        }
+    }
+
     /// Whether it misses a word of the function's own stack.
     pub fn misses(&self, begins: &Option<Arc>, k: usize) -> bool {
         let word = word_offset(k);

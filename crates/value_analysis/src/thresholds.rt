@@ -1,4 +1,5 @@
-//! Numbers at which an interval may stop to grow: those with which branches compare a register, and those beside them.
+//! Numbers at which an interval may stop to grow: those with which branches compare a register, those beside them, and the ends of where loads and
+//! stores may be.
 
 use crate::arcs::WORDS;
 use scale_base::NoMemory;
@@ -72,6 +73,18 @@ fn add_about(
 // A number as a word.
 fn word_of(n: u64) -> u32 {
     (n % WORDS) as u32
+}
+
+/// Adds a number up to which a register may go.
+pub fn add_limit(thresholds: &mut Vec<Threshold>, register: u8, word: u32) -> Result<(), NoMemory> {
+    add_threshold(
+        thresholds,
+        Threshold {
+            register,
+            word,
+            exact: false,
+        },
+    )
 }
 
 /// Adds the ends of an interval with which a register is compared. A long one says something by its last number where it begins with the least signed number, and
