@@ -4,6 +4,7 @@ use Rattle.std.specs.List.{All}
 use Rattle.std.specs.Prelude.{slice_get}
 use Rattle.scale_base.specs.declared.instruction.Instr.{Instr}
 use Rattle.scale_base.specs.Image.{loaded_byte}
+use Rattle.scale_base.specs.Layout.{layout_of}
 use Rattle.scale_base.specs.State.{reg}
 use Rattle.cost_theory.specs.Graph.{Graph}
 use Rattle.code_text.specs.Text.{Text, instr_at}
@@ -15,6 +16,7 @@ use Rattle.bound_laws.specs.Registers as registers
 use Rattle.bound_laws.specs.Turning.{Leads, Calls}
 use Rattle.stack_laws.specs.Laws.{IsStackAnalysed}
 use Rattle.bound_laws.specs.Values.{Values, Steps, AreIn, IsHeld, IsRegister}
+use Rattle.stack_laws.specs.Areas.{AreAreas}
 use Rattle.stack_laws.specs.Cells.{IsCellHeld}
 use Rattle.stack_laws.specs.Stacks.{Stacks, IsCellKept, IsPassed, AreEntered, AreBack, IsReturned, IsSparing, IsDescending, IsStackInvariant}
 use Rattle.wrapped_intervals.specs.declared.lines.Measure.{Measure}
@@ -139,15 +141,16 @@ edge_so c e k at along sound = record {
     source : address c k ≡ (graph c.graph.now).source e
     source = sym (address_is c k ((graph c.graph.now).source e) at)
 
-pub analysed : (c : StackClaim) → IsStackClaim c → c.view.now.keyed_segment ≡ None → IsStart (values_in c) (stacks_in c) c.view.now.entry → ((j : ℕ) → IsCellHeld ((stacks_in c).cell j) (loaded_byte c.view.now)) → IsStackInvariant (text_in c) (text_graph (text_in c) c.graph.now.code) (values_in c) (stacks_in c) →
+pub analysed : (c : StackClaim) → IsStackClaim c → c.view.now.keyed_segment ≡ None → IsStart (values_in c) (stacks_in c) c.view.now.entry → AreAreas (layout_of c.view.now) (stacks_in c).areas → ((j : ℕ) → IsCellHeld ((stacks_in c).cell j) (loaded_byte c.view.now)) → IsStackInvariant (text_in c) (text_graph (text_in c) c.graph.now.code) (values_in c) (stacks_in c) →
     IsStackAnalysed c.view.now c.graph.now.code (claim_values c) (claim_stacks c)
 unfolding text_in values_in stacks_in
-analysed c is plain start cells given = record {
+analysed c is plain start areas cells given = record {
   reached = is.graph_is.reached;
   invariant = given;
   beginning = start.beginning;
   starts = start.starts;
   begins = start.begins;
   plain = plain;
+  areas = areas;
   cells = cells;
 }

@@ -127,11 +127,10 @@ pub fn accessed_in(way: &Way<'_>, r: u8, more: u32) -> Option<Arc>
     ensures place { IfSome result (λ place. IsAccessedAlong way.now r more place) }
     ensures kept { IsKeptOr result }
 {
-    let held = held_at(way.claim, way.from, r);
-    if held.is_none() {
-        return None;
+    match held_at(way.claim, way.from, r) {
+        Some(held) => cut_of(areas(way.claim), sum_with(Some(held), u64::from(more))),
+        None => None,
     }
-    cut_of(areas(way.claim), sum_with(held, u64::from(more)))
 }
 
 // ---- registers

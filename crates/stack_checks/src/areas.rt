@@ -1,6 +1,6 @@
 //! Whether the areas of a table hold all that an image lets be loaded from or stored to: its stack and its segments.
 
-ghost use Rattle.std.specs.Prelude.{◌≡◌, ◌≤◌, ◌<◌, ◌^◌, true};
+ghost use Rattle.std.specs.Prelude.{◌≡◌, ◌<◌, ℕ, true};
 ghost use Rattle.std.specs.List.{All};
 ghost use Rattle.scale_base.specs.Image.{addresses_of};
 ghost use Rattle.scale_base.specs.Layout.{layout_of};
@@ -28,7 +28,13 @@ fn is_span_in(span: Span, area: Arc) -> bool
 {
     let from = u64::from(span.from);
     let last = u64::from(span.len) - 1;
-    area.stride() == 1 && from + last < WORDS && ahead(area.low(), from) + last <= area.more()
+    if area.stride() != 1 {
+        return false;
+    }
+    if WORDS <= from + last {
+        return false;
+    }
+    ahead(area.low(), from) + last <= area.more()
 }
 
 // Whether one of the areas does.
@@ -88,5 +94,9 @@ pub fn are_areas(claim: &StackClaim<'_>) -> bool
     requires { IsStackClaim claim.now }
     ensures { result ≡ true → AreAreas (layout_of claim.now.view.now) (stacks_in claim.now).areas }
 {
-    is_held(STACK, areas(claim)) && are_segments_held(claim.view, areas(claim))
+    let known = areas(claim);
+    if !is_held(STACK, known) {
+        return false;
+    }
+    are_segments_held(claim.view, known)
 }

@@ -1,6 +1,7 @@
 //! What a table says of the words of the stack over an edge, where a function begins, and behind a call.
 
 ghost use Rattle.std.specs.Prelude.{◌≡◌, ◌<◌, ℕ, length, IfSome, Some, None, true};
+ghost use Rattle.scale_base.specs.Arith.{plus};
 ghost use Rattle.bound_laws.specs.Values as values;
 ghost use Rattle.bound_laws.specs.Values.{IsRegister};
 ghost use Rattle.stack_laws.specs.Areas.{IsAccess};
@@ -132,6 +133,13 @@ fn compared(i: Instr) -> (u8, u8) {
     }
 }
 
+// The sum of two numbers, modulo 2^32.
+fn added(a: u32, b: u32) -> u32
+    ensures { result ≡ plus a b }
+{
+    a.wrapping_add(b)
+}
+
 // Whether a word's interval holds what is so far below an access's addresses.
 fn is_access_below(way: &Way<'_>, j: u32, place: Arc, more: u32) -> bool
     requires way { IsWay way.now }
@@ -155,7 +163,7 @@ fn is_accessed_by(way: &Way<'_>, j: u32, r: u8, more: u32, further: u32) -> bool
     ensures { result ≡ true → IsWordAlong way.now j }
 {
     match accessed_in(way, r, further) {
-        Some(place) => is_access_below(way, j, place, further.wrapping_add(more)),
+        Some(place) => is_access_below(way, j, place, added(further, more)),
         None => false,
     }
 }
@@ -202,7 +210,13 @@ fn is_missed_covered(way: &Way<'_>, j: u32) -> bool
         return true;
     }
     let registers = compared(way.instr);
-    is_tied(way, j, registers.0) || is_tied(way, j, registers.1) || is_accessed(way, j)
+    if is_tied(way, j, registers.0) {
+        return true;
+    }
+    if is_tied(way, j, registers.1) {
+        return true;
+    }
+    is_accessed(way, j)
 }
 
 // Whether a word's interval holds what the instruction leaves there, by where that comes from.

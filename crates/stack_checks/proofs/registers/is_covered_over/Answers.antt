@@ -13,5 +13,8 @@ returns-then-is_subtracted c so = inr (inr (inl (c.if-is_subtracted.ensures refl
 pub returns-then-is_cell_loaded : goal.returns-then-is_cell_loaded
 returns-then-is_cell_loaded c so = inr (inr (inr (inl (c.if-is_cell_loaded.ensures refl))))
 
+pub returns-then-is_told_to : goal.returns-then-is_told_to
+returns-then-is_told_to c so = inr (inr (inr (inr (inl (c.if-is_told_to.ensures refl)))))
+
 pub returns : goal.returns
-returns c so = inr (inr (inr (inr (c.is_told_to.ensures so))))
+returns c so = inr (inr (inr (inr (inr (c.is_covered_by_access.ensures so)))))
