@@ -43,7 +43,7 @@ fn takes_less(fit: &Fit, than: &Fit) -> bool
 
 // Whether a fit saves at least 40 thousandths of what the image at one level takes: of what saves less, new inputs often take more.
 fn saves_enough(fit: &Fit, held: u128) -> bool {
-    fit.fitted.energy <= held - held / 25
+    fit.fitted.energy <= held.saturating_sub(held / 25)
 }
 
 // The fit that is chosen so far, and the version that it is of, if it isn't that of the program itself.
