@@ -11,7 +11,7 @@ use Rattle.scale_base.specs.declared.instruction.BranchOp.TheVariants.{Beq, Bne,
 use Rattle.scale_base.specs.Arith.{plus, signed, unsigned, upper_half, is_taken}
 use Rattle.bound_laws.specs.Values.{Arc, IsHeld, difference_of, negated, sum_of, least_of, top_of}
 use Rattle.bound_laws.proofs.Laws.{in_covers, in_word, scaled_in, sum_in, sum_with_in, below_top}
-use Rattle.turn_laws.specs.Relating.{Relation, IsError, IsRelated, IsWeaker, moved_by_number, moved_by_arc, moved_back, multiplied, divided, lowered, is_low, are_low, exponent_within, is_one, greater, lesser, are_ordered, first_related, second_related}
+use Rattle.turn_laws.specs.Relating.{Relation, IsError, IsRelated, IsWeaker, moved_by_number, moved_by_arc, moved_back, multiplied, divided, lowered, is_low, are_low, exponent_within, bits_off, is_one, greater, lesser, are_ordered, first_related, second_related}
 use Rattle.turn_laws.specs.Relating.Relation.{unknown, ahead_by, below, above, read}
 
 pub low_one : (a : ℕ) → a < 2 ^ 31 → signed a ≡ pos a
@@ -295,11 +295,14 @@ exponent_least zero n some = some
 exponent_least (suc k) n some = cond_both (nat_lt n (2 ^ suc k)) (exponent_within k n) (suc k) (λ e. 2 ^ e ≤ n)
     (λ _. exponent_least k n some) (λ h. ltb-false n (2 ^ suc k) h)
 
-pub quotient_less : (a b m : ℕ) → a < 2 ^ 32 → 0 < m → m ≤ b → (if b == 0 then 2 ^ 32 - 1 else a / b) % 2 ^ 32 ≤ a % 2 ^ 32 / 2 ^ exponent_within 31 m
-quotient_less a b m small some least = cond_both (b == 0) (2 ^ 32 - 1) (a / b) (λ n. n % 2 ^ 32 ≤ a % 2 ^ 32 / 2 ^ exponent_within 31 m)
+pub off_least : (j : Option Arc) (b : ℕ) → nat_lt 0 (least_of j) ≡ true → IsHeld j b → 2 ^ bits_off j ≤ b
+unfolding bits_off
+off_least j b some y = let p = exponent_least 31 (least_of j) (ltb-true 0 (least_of j) some) in let q = above_least j b y in omega arith
+
+pub quotient_less : (a b n : ℕ) → a < 2 ^ 32 → 2 ^ n ≤ b → (if b == 0 then 2 ^ 32 - 1 else a / b) % 2 ^ 32 ≤ a % 2 ^ 32 / 2 ^ n
+quotient_less a b n small least = let some = pow_pos n in cond_both (b == 0) (2 ^ 32 - 1) (a / b) (λ q. q % 2 ^ 32 ≤ a % 2 ^ 32 / 2 ^ n)
     (λ e. absurd (let z : b ≡ 0 = eqb-true b 0 e in let bad : ⊥ = omega arith in bad))
-    (λ _. let n : ℕ = exponent_within 31 m in let p : 2 ^ n ≤ m = exponent_least 31 m some in
-    small_below (a / b) (2 ^ n) a small (less_divided a (2 ^ n) b (pow_pos n) (omega arith)))
+    (λ _. small_below (a / b) (2 ^ n) a small (less_divided a (2 ^ n) b some least))
 
 pub remainder_less : (a b : ℕ) → b < 2 ^ 32 → 0 < b → (if b == 0 then a else a % b) % 2 ^ 32 + 1 ≤ b % 2 ^ 32
 remainder_less a b small some = cond_both (b == 0) a (a % b) (λ n. n % 2 ^ 32 + 1 ≤ b % 2 ^ 32)
@@ -320,11 +323,11 @@ signed_product a b x y = ap (λ z. upper_half (z *ℤ signed b)) (low_one a x) �
 pub both_low : (i j : Option Arc) (a b : ℕ) → are_low i j ≡ true → IsHeld i a → IsHeld j b → (a < 2 ^ 31) × (b < 2 ^ 31)
 both_low i j a b low x y = let p = and_parts (is_low i) (is_low j) low in (held_low i a p.0 x, held_low j b p.1 y)
 
-pub signed_quotient_less : (a b m : ℕ) → a < 2 ^ 31 → b < 2 ^ 31 → 0 < m → m ≤ b →
-    (if b == 0 then 2 ^ 32 - 1 else unsigned (int_div (signed a) (signed b))) % 2 ^ 32 ≤ a % 2 ^ 32 / 2 ^ exponent_within 31 m
-signed_quotient_less a b m x y some least =
-    subst (λ n. (if b == 0 then 2 ^ 32 - 1 else n) % 2 ^ 32 ≤ a % 2 ^ 32 / 2 ^ exponent_within 31 m) (sym (signed_quotient a b x y))
-    (quotient_less a b m (let q : a < 2 ^ 32 = omega arith in q) some least)
+pub signed_quotient_less : (a b n : ℕ) → a < 2 ^ 31 → b < 2 ^ 31 → 2 ^ n ≤ b →
+    (if b == 0 then 2 ^ 32 - 1 else unsigned (int_div (signed a) (signed b))) % 2 ^ 32 ≤ a % 2 ^ 32 / 2 ^ n
+signed_quotient_less a b n x y least =
+    subst (λ q. (if b == 0 then 2 ^ 32 - 1 else q) % 2 ^ 32 ≤ a % 2 ^ 32 / 2 ^ n) (sym (signed_quotient a b x y))
+    (quotient_less a b n (let q : a < 2 ^ 32 = omega arith in q) least)
 
 pub signed_remainder_less : (a b : ℕ) → a < 2 ^ 31 → b < 2 ^ 31 → 0 < b → (if b == 0 then a else unsigned (int_rem (signed a) (signed b))) % 2 ^ 32 + 1 ≤ b % 2 ^ 32
 signed_remainder_less a b x y some =

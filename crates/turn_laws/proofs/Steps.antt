@@ -22,7 +22,7 @@ use Rattle.turn_laws.specs.Relating.{Relation, IsRelated, IsWeaker, made, made_t
 use Rattle.turn_laws.specs.Relating.Relation.{unknown, read}
 use Rattle.turn_laws.specs.Relating.Place.{in_register, in_word, in_input}
 use Rattle.turn_laws.proofs.Inputs.{left, put, step_falls, Answers, read_answers}
-use Rattle.turn_laws.proofs.Relations.{fewer_in, one_held, under_top, least_mod, weaker_in, same_in, number_in, arc_in, sum_both_in, back_in, product_in, divided_in, lowered_in, both_words, ordered_so, first_in, second_in, held_word, held_low, held_more, and_less, and_less_too, shifted_less, signed_shifted, product_less, product_less_too, quotient_less, remainder_less, above_least, both_low, signed_quotient_less, signed_remainder_less, signed_product_less, signed_product_less_too}
+use Rattle.turn_laws.proofs.Relations.{fewer_in, one_held, under_top, least_mod, weaker_in, same_in, number_in, arc_in, sum_both_in, back_in, product_in, divided_in, lowered_in, both_words, ordered_so, first_in, second_in, held_word, held_low, held_more, and_less, and_less_too, shifted_less, signed_shifted, product_less, product_less_too, quotient_less, remainder_less, off_least, both_low, signed_quotient_less, signed_remainder_less, signed_product_less, signed_product_less_too}
 use Rattle.turn_laws.proofs.Facts.{Facts, IsPlaceRelated}
 
 module _ (env : Setting) (keyless : env.layout.keyed ≡ None) (v : Values) (w : Stacks) (offsets : (k : ℕ) → w.offset k < 2 ^ 32) (s : State) (zero_is : reg s.regs 0 ≡ 0) (size : length s.regs ≡ 32) (begun : List ℕ)
@@ -118,8 +118,8 @@ module _ (env : Setting) (keyless : env.layout.keyed ≡ None) (v : Values) (w :
         into (divided (row_of c s.pc rs1) (bits_off (held (v.at s.pc) rs2)) both) rd (reg_result Divu a b) h
         (divided_in rest (row_of c s.pc rs1) (bits_off (held (v.at s.pc) rs2)) both start a (reg_result Divu a b)
         (λ e. let p = and_parts (is_some (held (v.at s.pc) rs1)) (nat_lt 0 (least_of (held (v.at s.pc) rs2))) e in
-        quotient_less a b (least_of (held (v.at s.pc) rs2)) (held_word (held (v.at s.pc) rs1) a p.0 (at_of rs1)) (ltb-true 0 (least_of (held (v.at s.pc) rs2)) p.1)
-        (above_least (held (v.at s.pc) rs2) b (at_of rs2))) (related rs1))
+        quotient_less a b (bits_off (held (v.at s.pc) rs2)) (held_word (held (v.at s.pc) rs1) a p.0 (at_of rs1))
+        (off_least (held (v.at s.pc) rs2) b p.1 (at_of rs2))) (related rs1))
     by (Reg Div rd rs1 rs2) h =
         let a : ℕ = reg s.regs rs1 in
         let b : ℕ = reg s.regs rs2 in
@@ -128,8 +128,7 @@ module _ (env : Setting) (keyless : env.layout.keyed ≡ None) (v : Values) (w :
         (divided_in rest (row_of c s.pc rs1) (bits_off (held (v.at s.pc) rs2)) both start a (reg_result Div a b)
         (λ e. let p = and_parts (are_low (held (v.at s.pc) rs1) (held (v.at s.pc) rs2)) (nat_lt 0 (least_of (held (v.at s.pc) rs2))) e in
         let q = both_low (held (v.at s.pc) rs1) (held (v.at s.pc) rs2) a b p.0 (at_of rs1) (at_of rs2) in
-        signed_quotient_less a b (least_of (held (v.at s.pc) rs2)) q.0 q.1 (ltb-true 0 (least_of (held (v.at s.pc) rs2)) p.1)
-        (above_least (held (v.at s.pc) rs2) b (at_of rs2))) (related rs1))
+        signed_quotient_less a b (bits_off (held (v.at s.pc) rs2)) q.0 q.1 (off_least (held (v.at s.pc) rs2) b p.1 (at_of rs2))) (related rs1))
     by (Reg Rem rd rs1 rs2) h =
         let a : ℕ = reg s.regs rs1 in
         let b : ℕ = reg s.regs rs2 in

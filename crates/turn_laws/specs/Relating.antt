@@ -9,14 +9,13 @@ use Rattle.scale_base.specs.declared.instruction.RegOp.TheVariants.{Add, Sub, An
 use Rattle.scale_base.specs.declared.instruction.Instr.{Instr}
 use Rattle.scale_base.specs.declared.instruction.Instr.TheVariants.{Imm, Reg, Ecall}
 use Rattle.scale_base.specs.Arith.{unsigned}
-use Rattle.scale_base.specs.State.{reg}
 use Rattle.cost_theory.specs.Graph.{Graph, Loops}
 use Rattle.code_text.specs.Text.{Text, instr_at}
 use Rattle.bound_laws.specs.Registers.{keeps}
 use Rattle.bound_laws.specs.Turning.{Leads, Calls}
 use Rattle.bound_laws.specs.Values.{Arc, arc, strided, Covers, IsHeld, held, least_of, top_of, sum_of, sum_with, difference_of, scaled, passed, Said, said, IsImpossible, IsRegister, Values, Steps}
 use Rattle.stack_laws.specs.Counting as counting
-use Rattle.stack_laws.specs.Stacks.{Stacks, View, IsLoadedTo, IsStoredFrom, IsMissed, IsRestored, IsSafe}
+use Rattle.stack_laws.specs.Stacks.{Stacks, IsLoadedTo, IsStoredFrom, IsMissed, IsRestored, IsSafe}
 
 -- ---- relations
 
@@ -141,7 +140,7 @@ exponent_within zero n = 0
 exponent_within (suc k) n = if nat_lt n (2 ^ suc k) then exponent_within k n else suc k
 
 -- how many bits a quotient by a value of an interval has less, at least
-abbrev pub bits_off : Option Arc → ℕ
+unfoldable pub bits_off : Option Arc → ℕ
 bits_off j = exponent_within 31 (least_of j)
 
 -- what an instruction writes, by the relations and the intervals of registers before it
