@@ -84,6 +84,11 @@ fn limits(arc: Option<Arc>) -> (u32, u32) {
     }
 }
 
+// Whether an interval has no negative number.
+fn is_low(arc: Option<Arc>) -> bool {
+    limits(arc).1 < 0x8000_0000
+}
+
 // The numbers of an interval more.
 fn moved_by(low: u32, more: u32, arc: Option<Arc>) -> Relation {
     match ends(arc) {
@@ -206,6 +211,16 @@ fn halved(q: Relation, n: u32, word: bool) -> Relation {
     }
 }
 
+// A quotient, which has as many bits less as the least divisor has but for its first one.
+fn divided(q: Relation, word: bool, by: Option<Arc>) -> Relation {
+    let (least, _) = limits(by);
+    if least == 0 {
+        Relation::Unknown
+    } else {
+        halved(q, least.ilog2(), word)
+    }
+}
+
 fn lowered(q: Relation, n: u32, word: bool) -> Relation {
     match q {
         Relation::Below(less, shift) if word => Relation::Below(less.saturating_add(n), shift),
@@ -238,7 +253,7 @@ fn by_number(op: ImmOp, one: Operand, imm: i32) -> Relation {
         ImmOp::Slli => multiplied(one, by % 32),
         ImmOp::Andi => lowered(q, 0, arc.is_some()),
         ImmOp::Srli => halved(q, by % 32, arc.is_some()),
-        ImmOp::Srai => halved(q, by % 32, limits(arc).1 < 0x8000_0000),
+        ImmOp::Srai => halved(q, by % 32, is_low(arc)),
         _ => Relation::Unknown,
     }
 }
@@ -248,6 +263,7 @@ fn by_registers(op: RegOp, one: Operand, other: Operand) -> Relation {
     let (p, q) = (one.relation, other.relation);
     let (first, second) = (one.arc, other.arc);
     let words = first.is_some() && second.is_some();
+    let low = is_low(first) && is_low(second);
     match op {
         RegOp::Add => either(sum(one, second), sum(other, first)),
         RegOp::Sub => difference(one, second),
@@ -255,8 +271,11 @@ fn by_registers(op: RegOp, one: Operand, other: Operand) -> Relation {
             lowered(p, 0, first.is_some()),
             lowered(q, 0, second.is_some()),
         ),
+        RegOp::Mulh => either(halved(p, 1, low), halved(q, 1, low)),
         RegOp::Mulhu => either(halved(p, 0, words), halved(q, 0, words)),
-        RegOp::Divu => halved(p, 1, first.is_some() && limits(second).0 > 1),
+        RegOp::Div => divided(p, low, second),
+        RegOp::Divu => divided(p, first.is_some(), second),
+        RegOp::Rem => lowered(q, 1, low && limits(second).0 > 0),
         RegOp::Remu => lowered(q, 1, second.is_some() && limits(second).0 > 0),
         _ => Relation::Unknown,
     }

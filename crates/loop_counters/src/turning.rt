@@ -342,7 +342,15 @@ fn is_counting(instr: Instr) -> bool {
         Instr::Reg { op, .. } => {
             matches!(
                 &op,
-                RegOp::Add | RegOp::Sub | RegOp::And | RegOp::Mulhu | RegOp::Divu | RegOp::Remu
+                RegOp::Add
+                    | RegOp::Sub
+                    | RegOp::And
+                    | RegOp::Mulh
+                    | RegOp::Mulhu
+                    | RegOp::Div
+                    | RegOp::Divu
+                    | RegOp::Rem
+                    | RegOp::Remu
             )
         }
         _ => false,

@@ -8,7 +8,7 @@ ghost use Rattle.turn_laws.specs.Relating as relating;
 ghost use Rattle.turn_checks.specs.Turned.{AreTurns, certificate_in, relation_view};
 
 use crate::relations::{
-    consumed_by, is_divided, is_low, is_lowered, is_moved_back, is_moved_by_arc,
+    are_low, bits_off, consumed_by, is_divided, is_low, is_lowered, is_moved_back, is_moved_by_arc,
     is_moved_by_number, is_multiplied, is_one, is_weaker, least_of,
 };
 use crate::rows::{own_at, relation_at, row_at};
@@ -32,6 +32,16 @@ fn are_words(claim: &StackClaim<'_>, k: usize, rs1: u8, rs2: u8) -> bool
         (values.held ((values_in claim.now).at (address claim.now k)) rs2)) }
 {
     held_at(claim, k, rs1).is_some() && held_at(claim, k, rs2).is_some()
+}
+
+// Whether neither register is a negative number.
+fn are_signless(claim: &StackClaim<'_>, k: usize, rs1: u8, rs2: u8) -> bool
+    requires claim { IsStackClaim claim.now }
+    requires node { k < length claim.now.graph.now.code.nodes }
+    ensures { result ≡ relating.are_low (values.held ((values_in claim.now).at (address claim.now k)) rs1)
+        (values.held ((values_in claim.now).at (address claim.now k)) rs2) }
+{
+    are_low(held_at(claim, k, rs1), held_at(claim, k, rs2))
 }
 
 // Whether an operation with a number leaves in its register what has a relation.
@@ -156,6 +166,36 @@ fn is_made_by_register(
             0,
             held_at(claim, k, rs1).is_some(),
         ),
+        _ => is_unknown(b),
+    }
+}
+
+// The same of the upper half of a product.
+fn is_made_by_product(
+    claim: &StackClaim<'_>,
+    table: &TurnTable,
+    i: Instr,
+    k: usize,
+    b: Relation,
+) -> bool
+    requires claim { IsStackClaim claim.now }
+    requires node { k < length claim.now.graph.now.code.nodes }
+    requires sized { AreTurns claim.now.graph.now.code.nodes table.now }
+    ensures { result ≡ true → relating.IsWeaker (relation_view b) (relating.made i
+        (relating.row_of (certificate_in claim.now table.now) (address claim.now k)) ((values_in claim.now).at (address claim.now k))) }
+{
+    match i {
+        Instr::Reg {
+            op: RegOp::Mulh,
+            rd: _,
+            rs1,
+            rs2,
+        } => is_divided(
+            b,
+            relation_at(claim, table, k, rs1),
+            1,
+            are_signless(claim, k, rs1, rs2),
+        ),
         Instr::Reg {
             op: RegOp::Mulhu,
             rd: _,
@@ -167,6 +207,36 @@ fn is_made_by_register(
             0,
             are_words(claim, k, rs1, rs2),
         ),
+        _ => is_unknown(b),
+    }
+}
+
+// The same of a quotient.
+fn is_made_by_quotient(
+    claim: &StackClaim<'_>,
+    table: &TurnTable,
+    i: Instr,
+    k: usize,
+    b: Relation,
+) -> bool
+    requires claim { IsStackClaim claim.now }
+    requires node { k < length claim.now.graph.now.code.nodes }
+    requires sized { AreTurns claim.now.graph.now.code.nodes table.now }
+    ensures { result ≡ true → relating.IsWeaker (relation_view b) (relating.made i
+        (relating.row_of (certificate_in claim.now table.now) (address claim.now k)) ((values_in claim.now).at (address claim.now k))) }
+{
+    match i {
+        Instr::Reg {
+            op: RegOp::Div,
+            rd: _,
+            rs1,
+            rs2,
+        } => is_divided(
+            b,
+            relation_at(claim, table, k, rs1),
+            bits_off(held_at(claim, k, rs2)),
+            are_signless(claim, k, rs1, rs2) && 0 < least_of(held_at(claim, k, rs2)),
+        ),
         Instr::Reg {
             op: RegOp::Divu,
             rd: _,
@@ -175,8 +245,38 @@ fn is_made_by_register(
         } => is_divided(
             b,
             relation_at(claim, table, k, rs1),
+            bits_off(held_at(claim, k, rs2)),
+            held_at(claim, k, rs1).is_some() && 0 < least_of(held_at(claim, k, rs2)),
+        ),
+        _ => is_unknown(b),
+    }
+}
+
+// The same of a remainder.
+fn is_made_by_remainder(
+    claim: &StackClaim<'_>,
+    table: &TurnTable,
+    i: Instr,
+    k: usize,
+    b: Relation,
+) -> bool
+    requires claim { IsStackClaim claim.now }
+    requires node { k < length claim.now.graph.now.code.nodes }
+    requires sized { AreTurns claim.now.graph.now.code.nodes table.now }
+    ensures { result ≡ true → relating.IsWeaker (relation_view b) (relating.made i
+        (relating.row_of (certificate_in claim.now table.now) (address claim.now k)) ((values_in claim.now).at (address claim.now k))) }
+{
+    match i {
+        Instr::Reg {
+            op: RegOp::Rem,
+            rd: _,
+            rs1,
+            rs2,
+        } => is_lowered(
+            b,
+            relation_at(claim, table, k, rs2),
             1,
-            held_at(claim, k, rs1).is_some() && 1 < least_of(held_at(claim, k, rs2)),
+            are_signless(claim, k, rs1, rs2) && 0 < least_of(held_at(claim, k, rs2)),
         ),
         Instr::Reg {
             op: RegOp::Remu,
@@ -224,6 +324,36 @@ fn is_made_too(claim: &StackClaim<'_>, table: &TurnTable, i: Instr, k: usize, b:
             0,
             held_at(claim, k, rs2).is_some(),
         ),
+        _ => is_unknown(b),
+    }
+}
+
+// The same of the upper half of a product.
+fn is_product_made_too(
+    claim: &StackClaim<'_>,
+    table: &TurnTable,
+    i: Instr,
+    k: usize,
+    b: Relation,
+) -> bool
+    requires claim { IsStackClaim claim.now }
+    requires node { k < length claim.now.graph.now.code.nodes }
+    requires sized { AreTurns claim.now.graph.now.code.nodes table.now }
+    ensures { result ≡ true → relating.IsWeaker (relation_view b) (relating.made_too i
+        (relating.row_of (certificate_in claim.now table.now) (address claim.now k)) ((values_in claim.now).at (address claim.now k))) }
+{
+    match i {
+        Instr::Reg {
+            op: RegOp::Mulh,
+            rd: _,
+            rs1,
+            rs2,
+        } => is_divided(
+            b,
+            relation_at(claim, table, k, rs2),
+            1,
+            are_signless(claim, k, rs1, rs2),
+        ),
         Instr::Reg {
             op: RegOp::Mulhu,
             rd: _,
@@ -252,7 +382,11 @@ fn is_made_over(case: &TurnCase<'_>, i: Instr, k: usize, r: u8, b: Relation) -> 
     }
     is_made_by_number(case.claim, case.table, i, k, b)
         || is_made_by_register(case.claim, case.table, i, k, b)
+        || is_made_by_product(case.claim, case.table, i, k, b)
+        || is_made_by_quotient(case.claim, case.table, i, k, b)
+        || is_made_by_remainder(case.claim, case.table, i, k, b)
         || is_made_too(case.claim, case.table, i, k, b)
+        || is_product_made_too(case.claim, case.table, i, k, b)
 }
 
 // Whether a word is loaded to a register.

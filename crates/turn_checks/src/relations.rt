@@ -251,6 +251,25 @@ pub fn least_of(j: Option<Arc>) -> u64
     }
 }
 
+/// Whether neither of two intervals has a negative number.
+pub fn are_low(i: Option<Arc>, j: Option<Arc>) -> bool
+    requires i { IsKeptOr i }
+    requires j { IsKeptOr j }
+    ensures { result ≡ relating.are_low i j }
+{
+    is_low(i) && is_low(j)
+}
+
+/// How many bits a quotient by a value of an interval has less, at least.
+pub fn bits_off(j: Option<Arc>) -> u32
+    requires { IsFoundOr j }
+    ensures bits { result ≡ relating.bits_off j }
+    ensures small { result < 32 }
+{
+    let least = least_of(j);
+    if least == 0 { 0 } else { least.ilog2() }
+}
+
 /// Whether an interval has one word alone.
 pub fn is_one(j: Option<Arc>, n: u64) -> bool
     requires { IsFoundOr j }

@@ -1,6 +1,6 @@
 -- What instructions make of relations.
-use Rattle.std.proofs.Common.{◌≡◌, ℕ, ◌+◌, ◌-◌, ◌*◌, ◌/◌, ◌<◌, ◌≤◌, ◌%◌, ◌^◌, ◌⊎◌, inl, inr, ⊎_elim, Bool, true, false, refl, sym, ap, ◌∙◌, subst, arith, Option, Some, None}
-use Rattle.std.specs.Prelude.{pos, ◌==◌, ◌&&◌, not, int_lt, nat_lt, is_some, bit_and, if◌then◌else◌}
+use Rattle.std.proofs.Common.{◌≡◌, ℕ, zero, suc, ◌+◌, ◌-◌, ◌*◌, ◌/◌, ◌<◌, ◌≤◌, ◌%◌, ◌^◌, ◌⊎◌, inl, inr, ⊎_elim, Bool, true, false, refl, sym, ap, ◌∙◌, subst, arith, Option, Some, None}
+use Rattle.std.specs.Prelude.{pos, int_div, int_rem, ◌*ℤ◌, ◌==◌, ◌&&◌, not, int_lt, nat_lt, is_some, bit_and, if◌then◌else◌}
 use Rattle.std.specs.Int.{w32, int_shr}
 use Rattle.std.proofs.lemmas.Int.{to_z_pos}
 use Rattle.std.proofs.lemmas.Bool.{and_parts, cond_both, ltb-false, ltb-true, eqb-true, not-true}
@@ -8,10 +8,10 @@ use Rattle.std.proofs.lemmas.Nat.{and_le_l, and_le_r, le-div, pow_pos, pow-add}
 use Rattle.std.proofs.Math.Nat.{add-mul, div-mul-le_self, div-le_of_le-mul, mul-le-mul_left, mul-le-mul_right, mul_comm, mul_assoc, mod-le, mod-lt, mod-eq_of_lt, pow-le-pow_right}
 use Rattle.scale_base.specs.declared.instruction.BranchOp.{BranchOp}
 use Rattle.scale_base.specs.declared.instruction.BranchOp.TheVariants.{Beq, Bne, Blt, Bge, Bltu, Bgeu}
-use Rattle.scale_base.specs.Arith.{plus, signed, unsigned, is_taken}
+use Rattle.scale_base.specs.Arith.{plus, signed, unsigned, upper_half, is_taken}
 use Rattle.bound_laws.specs.Values.{Arc, IsHeld, difference_of, negated, sum_of, least_of, top_of}
 use Rattle.bound_laws.proofs.Laws.{in_covers, in_word, scaled_in, sum_in, sum_with_in, below_top}
-use Rattle.turn_laws.specs.Relating.{Relation, IsError, IsRelated, IsWeaker, moved_by_number, moved_by_arc, moved_back, multiplied, divided, lowered, is_low, is_one, greater, lesser, are_ordered, first_related, second_related}
+use Rattle.turn_laws.specs.Relating.{Relation, IsError, IsRelated, IsWeaker, moved_by_number, moved_by_arc, moved_back, multiplied, divided, lowered, is_low, are_low, exponent_within, bits_off, is_one, greater, lesser, are_ordered, first_related, second_related}
 use Rattle.turn_laws.specs.Relating.Relation.{unknown, ahead_by, below, above, read}
 
 pub low_one : (a : ℕ) → a < 2 ^ 31 → signed a ≡ pos a
@@ -289,15 +289,64 @@ product_less a b small other =
 pub product_less_too : (a b : ℕ) → a < 2 ^ 32 → b < 2 ^ 32 → a * b / 2 ^ 32 % 2 ^ 32 ≤ b % 2 ^ 32 / 2 ^ 0
 product_less_too a b small other = subst (λ n. n / 2 ^ 32 % 2 ^ 32 ≤ b % 2 ^ 32 / 2 ^ 0) (mul_comm b a) (product_less b a other small)
 
-pub quotient_less : (a b : ℕ) → a < 2 ^ 32 → 1 < b → (if b == 0 then 2 ^ 32 - 1 else a / b) % 2 ^ 32 ≤ a % 2 ^ 32 / 2 ^ 1
-quotient_less a b small some = cond_both (b == 0) (2 ^ 32 - 1) (a / b) (λ n. n % 2 ^ 32 ≤ a % 2 ^ 32 / 2 ^ 1)
+-- a number that isn't 0 is at least the power of 2 with the exponent that is found for it
+exponent_least : (k n : ℕ) → 0 < n → 2 ^ exponent_within k n ≤ n
+exponent_least zero n some = some
+exponent_least (suc k) n some = cond_both (nat_lt n (2 ^ suc k)) (exponent_within k n) (suc k) (λ e. 2 ^ e ≤ n)
+    (λ _. exponent_least k n some) (λ h. ltb-false n (2 ^ suc k) h)
+
+pub off_least : (j : Option Arc) (b : ℕ) → nat_lt 0 (least_of j) ≡ true → IsHeld j b → 2 ^ bits_off j ≤ b
+unfolding bits_off
+off_least j b some y = let p = exponent_least 31 (least_of j) (ltb-true 0 (least_of j) some) in let q = above_least j b y in omega arith
+
+pub quotient_less : (a b n : ℕ) → a < 2 ^ 32 → 2 ^ n ≤ b → (if b == 0 then 2 ^ 32 - 1 else a / b) % 2 ^ 32 ≤ a % 2 ^ 32 / 2 ^ n
+quotient_less a b n small least = let some = pow_pos n in cond_both (b == 0) (2 ^ 32 - 1) (a / b) (λ q. q % 2 ^ 32 ≤ a % 2 ^ 32 / 2 ^ n)
     (λ e. absurd (let z : b ≡ 0 = eqb-true b 0 e in let bad : ⊥ = omega arith in bad))
-    (λ _. small_below (a / b) (2 ^ 1) a small (less_divided a (2 ^ 1) b (omega arith) (omega arith)))
+    (λ _. small_below (a / b) (2 ^ n) a small (less_divided a (2 ^ n) b some least))
 
 pub remainder_less : (a b : ℕ) → b < 2 ^ 32 → 0 < b → (if b == 0 then a else a % b) % 2 ^ 32 + 1 ≤ b % 2 ^ 32
 remainder_less a b small some = cond_both (b == 0) a (a % b) (λ n. n % 2 ^ 32 + 1 ≤ b % 2 ^ 32)
     (λ e. absurd (let z : b ≡ 0 = eqb-true b 0 e in let bad : ⊥ = omega arith in bad))
     (λ _. let p : a % b < b = mod-lt a some in let q = mod-le (a % b) (2 ^ 32) in let e : b % 2 ^ 32 ≡ b = mod-eq_of_lt small in omega arith)
+
+-- ---- signed results of numbers that aren't negative
+
+signed_quotient : (a b : ℕ) → a < 2 ^ 31 → b < 2 ^ 31 → unsigned (int_div (signed a) (signed b)) ≡ a / b
+signed_quotient a b x y = ap (λ z. unsigned (int_div z (signed b))) (low_one a x) ∙ ap (λ z. unsigned (int_div (pos a) z)) (low_one b y)
+
+signed_remainder : (a b : ℕ) → a < 2 ^ 31 → b < 2 ^ 31 → unsigned (int_rem (signed a) (signed b)) ≡ a % b
+signed_remainder a b x y = ap (λ z. unsigned (int_rem z (signed b))) (low_one a x) ∙ ap (λ z. unsigned (int_rem (pos a) z)) (low_one b y)
+
+signed_product : (a b : ℕ) → a < 2 ^ 31 → b < 2 ^ 31 → upper_half (signed a *ℤ signed b) ≡ a * b / 2 ^ 32
+signed_product a b x y = ap (λ z. upper_half (z *ℤ signed b)) (low_one a x) ∙ ap (λ z. upper_half (pos a *ℤ z)) (low_one b y)
+
+pub both_low : (i j : Option Arc) (a b : ℕ) → are_low i j ≡ true → IsHeld i a → IsHeld j b → (a < 2 ^ 31) × (b < 2 ^ 31)
+both_low i j a b low x y = let p = and_parts (is_low i) (is_low j) low in (held_low i a p.0 x, held_low j b p.1 y)
+
+pub signed_quotient_less : (a b n : ℕ) → a < 2 ^ 31 → b < 2 ^ 31 → 2 ^ n ≤ b →
+    (if b == 0 then 2 ^ 32 - 1 else unsigned (int_div (signed a) (signed b))) % 2 ^ 32 ≤ a % 2 ^ 32 / 2 ^ n
+signed_quotient_less a b n x y least =
+    subst (λ q. (if b == 0 then 2 ^ 32 - 1 else q) % 2 ^ 32 ≤ a % 2 ^ 32 / 2 ^ n) (sym (signed_quotient a b x y))
+    (quotient_less a b n (let q : a < 2 ^ 32 = omega arith in q) least)
+
+pub signed_remainder_less : (a b : ℕ) → a < 2 ^ 31 → b < 2 ^ 31 → 0 < b → (if b == 0 then a else unsigned (int_rem (signed a) (signed b))) % 2 ^ 32 + 1 ≤ b % 2 ^ 32
+signed_remainder_less a b x y some =
+    subst (λ n. (if b == 0 then a else n) % 2 ^ 32 + 1 ≤ b % 2 ^ 32) (sym (signed_remainder a b x y)) (remainder_less a b (let q : b < 2 ^ 32 = omega arith in q) some)
+
+-- the upper half of a product of two of them is at most half of each
+half_product : (a b : ℕ) → a < 2 ^ 31 → b < 2 ^ 31 → a * b / 2 ^ 32 % 2 ^ 32 ≤ a % 2 ^ 32 / 2 ^ 1
+half_product a b x y =
+    let p : a * b ≤ a * 2 ^ 31 = mul-le-mul_left a (let q : b ≤ 2 ^ 31 = omega arith in q) in
+    go (a * b) (omega arith)
+  where
+    go : (n : ℕ) → n ≤ a * 2 ^ 31 → n / 2 ^ 32 % 2 ^ 32 ≤ a % 2 ^ 32 / 2 ^ 1
+    go n h = omega arith
+
+pub signed_product_less : (a b : ℕ) → a < 2 ^ 31 → b < 2 ^ 31 → upper_half (signed a *ℤ signed b) % 2 ^ 32 ≤ a % 2 ^ 32 / 2 ^ 1
+signed_product_less a b x y = subst (λ n. n % 2 ^ 32 ≤ a % 2 ^ 32 / 2 ^ 1) (sym (signed_product a b x y)) (half_product a b x y)
+
+pub signed_product_less_too : (a b : ℕ) → a < 2 ^ 31 → b < 2 ^ 31 → upper_half (signed a *ℤ signed b) % 2 ^ 32 ≤ b % 2 ^ 32 / 2 ^ 1
+signed_product_less_too a b x y = subst (λ n. n % 2 ^ 32 ≤ b % 2 ^ 32 / 2 ^ 1) (sym (signed_product a b x y ∙ ap (λ n. n / 2 ^ 32) (mul_comm a b))) (half_product b a y x)
 
 -- ---- comparisons
 

@@ -18,11 +18,11 @@ use Rattle.bound_laws.specs.Values.{Arc, IsHeld, held, least_of, passed, Said, s
 use Rattle.bound_laws.proofs.Laws.{IsSo, held_of, so_behind, step_of, steps_leave}
 use Rattle.stack_laws.specs.Stacks.{Stacks, View, view_of, IsStoredFrom, IsMissed, AreTold}
 use Rattle.stack_laws.proofs.Laws.{gets, puts, misses}
-use Rattle.turn_laws.specs.Relating.{Relation, IsRelated, IsWeaker, made, made_too, moved_by_number, moved_by_arc, moved_back, multiplied, divided, lowered, is_low, are_ordered, first_related, second_related, Place, TurnCertificate, row_of, IsMadeOver, IsLoadedOwn, IsRelatedBy, IsRowOn, IsRowOver, IsWordOver, IsPlaceOn, IsEvident, IsError, IsReadInto, IsCounted, IsTakenOn, consumed_by, read_number}
+use Rattle.turn_laws.specs.Relating.{Relation, IsRelated, IsWeaker, made, made_too, moved_by_number, moved_by_arc, moved_back, multiplied, divided, lowered, is_low, are_low, bits_off, are_ordered, first_related, second_related, Place, TurnCertificate, row_of, IsMadeOver, IsLoadedOwn, IsRelatedBy, IsRowOn, IsRowOver, IsWordOver, IsPlaceOn, IsEvident, IsError, IsReadInto, IsCounted, IsTakenOn, consumed_by, read_number}
 use Rattle.turn_laws.specs.Relating.Relation.{unknown, read}
 use Rattle.turn_laws.specs.Relating.Place.{in_register, in_word, in_input}
 use Rattle.turn_laws.proofs.Inputs.{left, put, step_falls, Answers, read_answers}
-use Rattle.turn_laws.proofs.Relations.{fewer_in, one_held, under_top, least_mod, weaker_in, same_in, number_in, arc_in, sum_both_in, back_in, product_in, divided_in, lowered_in, both_words, ordered_so, first_in, second_in, held_word, held_low, held_more, and_less, and_less_too, shifted_less, signed_shifted, product_less, product_less_too, quotient_less, remainder_less}
+use Rattle.turn_laws.proofs.Relations.{fewer_in, one_held, under_top, least_mod, weaker_in, same_in, number_in, arc_in, sum_both_in, back_in, product_in, divided_in, lowered_in, both_words, ordered_so, first_in, second_in, held_word, held_low, held_more, and_less, and_less_too, shifted_less, signed_shifted, product_less, product_less_too, quotient_less, remainder_less, off_least, both_low, signed_quotient_less, signed_remainder_less, signed_product_less, signed_product_less_too}
 use Rattle.turn_laws.proofs.Facts.{Facts, IsPlaceRelated}
 
 module _ (env : Setting) (keyless : env.layout.keyed ≡ None) (v : Values) (w : Stacks) (offsets : (k : ℕ) → w.offset k < 2 ^ 32) (s : State) (zero_is : reg s.regs 0 ≡ 0) (size : length s.regs ≡ 32) (begun : List ℕ)
@@ -104,14 +104,40 @@ module _ (env : Setting) (keyless : env.layout.keyed ≡ None) (v : Values) (w :
         (held_word (held (v.at s.pc) rs1) a p.0 (at_of rs1), held_word (held (v.at s.pc) rs2) b p.1 (at_of rs2)) in
         into (divided (row_of c s.pc rs1) 0 both) rd (a * b / 2 ^ 32) h
         (divided_in rest (row_of c s.pc rs1) 0 both start a (a * b / 2 ^ 32) (λ e. let p = words e in product_less a b p.0 p.1) (related rs1))
+    by (Reg Mulh rd rs1 rs2) h =
+        let a : ℕ = reg s.regs rs1 in
+        let b : ℕ = reg s.regs rs2 in
+        let both : Bool = are_low (held (v.at s.pc) rs1) (held (v.at s.pc) rs2) in
+        into (divided (row_of c s.pc rs1) 1 both) rd (reg_result Mulh a b) h
+        (divided_in rest (row_of c s.pc rs1) 1 both start a (reg_result Mulh a b)
+        (λ e. let p = both_low (held (v.at s.pc) rs1) (held (v.at s.pc) rs2) a b e (at_of rs1) (at_of rs2) in signed_product_less a b p.0 p.1) (related rs1))
     by (Reg Divu rd rs1 rs2) h =
         let a : ℕ = reg s.regs rs1 in
         let b : ℕ = reg s.regs rs2 in
-        let both : Bool = is_some (held (v.at s.pc) rs1) && nat_lt 1 (least_of (held (v.at s.pc) rs2)) in
-        into (divided (row_of c s.pc rs1) 1 both) rd (reg_result Divu a b) h
-        (divided_in rest (row_of c s.pc rs1) 1 both start a (reg_result Divu a b)
-        (λ e. let p = and_parts (is_some (held (v.at s.pc) rs1)) (nat_lt 1 (least_of (held (v.at s.pc) rs2))) e in
-        quotient_less a b (held_word (held (v.at s.pc) rs1) a p.0 (at_of rs1)) (held_more (held (v.at s.pc) rs2) 1 b p.1 (at_of rs2))) (related rs1))
+        let both : Bool = is_some (held (v.at s.pc) rs1) && nat_lt 0 (least_of (held (v.at s.pc) rs2)) in
+        into (divided (row_of c s.pc rs1) (bits_off (held (v.at s.pc) rs2)) both) rd (reg_result Divu a b) h
+        (divided_in rest (row_of c s.pc rs1) (bits_off (held (v.at s.pc) rs2)) both start a (reg_result Divu a b)
+        (λ e. let p = and_parts (is_some (held (v.at s.pc) rs1)) (nat_lt 0 (least_of (held (v.at s.pc) rs2))) e in
+        quotient_less a b (bits_off (held (v.at s.pc) rs2)) (held_word (held (v.at s.pc) rs1) a p.0 (at_of rs1))
+        (off_least (held (v.at s.pc) rs2) b p.1 (at_of rs2))) (related rs1))
+    by (Reg Div rd rs1 rs2) h =
+        let a : ℕ = reg s.regs rs1 in
+        let b : ℕ = reg s.regs rs2 in
+        let both : Bool = are_low (held (v.at s.pc) rs1) (held (v.at s.pc) rs2) && nat_lt 0 (least_of (held (v.at s.pc) rs2)) in
+        into (divided (row_of c s.pc rs1) (bits_off (held (v.at s.pc) rs2)) both) rd (reg_result Div a b) h
+        (divided_in rest (row_of c s.pc rs1) (bits_off (held (v.at s.pc) rs2)) both start a (reg_result Div a b)
+        (λ e. let p = and_parts (are_low (held (v.at s.pc) rs1) (held (v.at s.pc) rs2)) (nat_lt 0 (least_of (held (v.at s.pc) rs2))) e in
+        let q = both_low (held (v.at s.pc) rs1) (held (v.at s.pc) rs2) a b p.0 (at_of rs1) (at_of rs2) in
+        signed_quotient_less a b (bits_off (held (v.at s.pc) rs2)) q.0 q.1 (off_least (held (v.at s.pc) rs2) b p.1 (at_of rs2))) (related rs1))
+    by (Reg Rem rd rs1 rs2) h =
+        let a : ℕ = reg s.regs rs1 in
+        let b : ℕ = reg s.regs rs2 in
+        let both : Bool = are_low (held (v.at s.pc) rs1) (held (v.at s.pc) rs2) && nat_lt 0 (least_of (held (v.at s.pc) rs2)) in
+        into (lowered (row_of c s.pc rs2) 1 both) rd (reg_result Rem a b) h
+        (lowered_in rest (row_of c s.pc rs2) 1 both start b (reg_result Rem a b)
+        (λ e. let p = and_parts (are_low (held (v.at s.pc) rs1) (held (v.at s.pc) rs2)) (nat_lt 0 (least_of (held (v.at s.pc) rs2))) e in
+        let q = both_low (held (v.at s.pc) rs1) (held (v.at s.pc) rs2) a b p.0 (at_of rs1) (at_of rs2) in
+        signed_remainder_less a b q.0 q.1 (held_more (held (v.at s.pc) rs2) 0 b p.1 (at_of rs2))) (related rs2))
     by (Reg Remu rd rs1 rs2) h =
         let a : ℕ = reg s.regs rs1 in
         let b : ℕ = reg s.regs rs2 in
@@ -131,10 +157,7 @@ module _ (env : Setting) (keyless : env.layout.keyed ≡ None) (v : Values) (w :
         (lowered_in rest (row_of c s.pc rs1) 0 (is_some (held (v.at s.pc) rs1)) start (reg s.regs rs1) (reg_result And (reg s.regs rs1) (reg s.regs rs2))
         (λ e. and_less (reg s.regs rs1) (reg s.regs rs2) (held_word (held (v.at s.pc) rs1) (reg s.regs rs1) e (at_of rs1))) (related rs1))
     by (Reg Mul rd rs1 rs2) h = tt
-    by (Reg Mulh rd rs1 rs2) h = tt
     by (Reg Mulhsu rd rs1 rs2) h = tt
-    by (Reg Div rd rs1 rs2) h = tt
-    by (Reg Rem rd rs1 rs2) h = tt
     by (Lui rd imm) h = tt
     by (Auipc rd imm) h = tt
     by (Jal rd offset) h = tt
@@ -157,6 +180,13 @@ module _ (env : Setting) (keyless : env.layout.keyed ≡ None) (v : Values) (w :
         (held_word (held (v.at s.pc) rs1) a p.0 (at_of rs1), held_word (held (v.at s.pc) rs2) b p.1 (at_of rs2)) in
         into (divided (row_of c s.pc rs2) 0 both) rd (a * b / 2 ^ 32) h
         (divided_in rest (row_of c s.pc rs2) 0 both start b (a * b / 2 ^ 32) (λ e. let p = words e in product_less_too a b p.0 p.1) (related rs2))
+    by_too (Reg Mulh rd rs1 rs2) h =
+        let a : ℕ = reg s.regs rs1 in
+        let b : ℕ = reg s.regs rs2 in
+        let both : Bool = are_low (held (v.at s.pc) rs1) (held (v.at s.pc) rs2) in
+        into (divided (row_of c s.pc rs2) 1 both) rd (reg_result Mulh a b) h
+        (divided_in rest (row_of c s.pc rs2) 1 both start b (reg_result Mulh a b)
+        (λ e. let p = both_low (held (v.at s.pc) rs1) (held (v.at s.pc) rs2) a b e (at_of rs1) (at_of rs2) in signed_product_less_too a b p.0 p.1) (related rs2))
     by_too (Imm Addi rd rs1 imm) h = tt
     by_too (Imm Slti rd rs1 imm) h = tt
     by_too (Imm Sltiu rd rs1 imm) h = tt
@@ -178,7 +208,6 @@ module _ (env : Setting) (keyless : env.layout.keyed ≡ None) (v : Values) (w :
         (lowered_in rest (row_of c s.pc rs2) 0 (is_some (held (v.at s.pc) rs2)) start (reg s.regs rs2) (reg_result And (reg s.regs rs1) (reg s.regs rs2))
         (λ e. and_less_too (reg s.regs rs1) (reg s.regs rs2) (held_word (held (v.at s.pc) rs2) (reg s.regs rs2) e (at_of rs2))) (related rs2))
     by_too (Reg Mul rd rs1 rs2) h = tt
-    by_too (Reg Mulh rd rs1 rs2) h = tt
     by_too (Reg Mulhsu rd rs1 rs2) h = tt
     by_too (Reg Div rd rs1 rs2) h = tt
     by_too (Reg Divu rd rs1 rs2) h = tt

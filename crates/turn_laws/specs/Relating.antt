@@ -1,11 +1,11 @@
 -- How often a loop turns, by what each turn makes of a register, of a word of the stack, or of what is left of the input: relations of values
 -- to the one number that stood there when the header was last come to, which the code has to confirm edge by edge. Ranking functions: Floyd,
 -- Assigning meanings to programs, 1967.
-use Rattle.std.specs.Prelude.{◌≡◌, ◌≢◌, ℕ, ◌+◌, ◌-◌, ◌*◌, ◌/◌, ◌%◌, ◌^◌, ◌<◌, ◌≤◌, ◌⊎◌, ◌==◌, ◌&&◌, not, nat_lt, Bool, true, false, Option, Some, None, is_some, List, length, if◌then◌else◌}
+use Rattle.std.specs.Prelude.{◌≡◌, ◌≢◌, ℕ, zero, suc, ◌+◌, ◌-◌, ◌*◌, ◌/◌, ◌%◌, ◌^◌, ◌<◌, ◌≤◌, ◌⊎◌, ◌==◌, ◌&&◌, not, nat_lt, Bool, true, false, Option, Some, None, is_some, List, length, if◌then◌else◌}
 use Rattle.scale_base.specs.declared.instruction.BranchOp.{BranchOp}
 use Rattle.scale_base.specs.declared.instruction.BranchOp.TheVariants.{Beq, Bne, Blt, Bge, Bltu, Bgeu}
 use Rattle.scale_base.specs.declared.instruction.ImmOp.TheVariants.{Addi, Andi, Slli, Srli, Srai}
-use Rattle.scale_base.specs.declared.instruction.RegOp.TheVariants.{Add, Sub, And, Mulhu, Divu, Remu}
+use Rattle.scale_base.specs.declared.instruction.RegOp.TheVariants.{Add, Sub, And, Mulh, Mulhu, Div, Divu, Rem, Remu}
 use Rattle.scale_base.specs.declared.instruction.Instr.{Instr}
 use Rattle.scale_base.specs.declared.instruction.Instr.TheVariants.{Imm, Reg, Ecall}
 use Rattle.scale_base.specs.Arith.{unsigned}
@@ -130,6 +130,19 @@ abbrev pub is_low : Option Arc → Bool
 is_low None = false
 is_low (Some i) = nat_lt (top_of (Some i)) (2 ^ 31)
 
+-- Neither interval has a negative number, so that signed products, quotients and remainders are unsigned ones.
+abbrev pub are_low : (i j : Option Arc) → Bool
+are_low i j = is_low i && is_low j
+
+-- the exponent of the greatest power of 2 that is at most the number, where it is no more than the first number
+abbrev pub exponent_within : ℕ → ℕ → ℕ
+exponent_within zero n = 0
+exponent_within (suc k) n = if nat_lt n (2 ^ suc k) then exponent_within k n else suc k
+
+-- how many bits a quotient by a value of an interval has less, at least
+unfoldable pub bits_off : Option Arc → ℕ
+bits_off j = exponent_within 31 (least_of j)
+
 -- what an instruction writes, by the relations and the intervals of registers before it
 abbrev pub made : Instr → (ℕ → Relation) → (ℕ → Option Arc) → Relation
 made (Imm Addi rd rs1 imm) row at = moved_by_number (row rs1) (held at rs1) (unsigned imm)
@@ -141,8 +154,14 @@ made (Reg Add rd rs1 rs2) row at = moved_by_arc (row rs1) (held at rs1) (held at
 made (Reg Sub rd rs1 rs2) row at = moved_back (row rs1) (held at rs1) (held at rs2)
 made (Reg And rd rs1 rs2) row at = lowered (row rs1) 0 (is_some (held at rs1))
 made (Reg Mulhu rd rs1 rs2) row at = divided (row rs1) 0 (is_some (held at rs1) && is_some (held at rs2))
-made (Reg Divu rd rs1 rs2) row at = divided (row rs1) 1 (is_some (held at rs1) && nat_lt 1 (least_of (held at rs2)))
+made (Reg Mulh rd rs1 rs2) row at = divided (row rs1) 1 (are_low (held at rs1) (held at rs2))
+made (Reg Divu rd rs1 rs2) row at =
+    divided (row rs1) (bits_off (held at rs2)) (is_some (held at rs1) && nat_lt 0 (least_of (held at rs2)))
+made (Reg Div rd rs1 rs2) row at =
+    divided (row rs1) (bits_off (held at rs2)) (are_low (held at rs1) (held at rs2) && nat_lt 0 (least_of (held at rs2)))
 made (Reg Remu rd rs1 rs2) row at = lowered (row rs2) 1 (is_some (held at rs2) && nat_lt 0 (least_of (held at rs2)))
+made (Reg Rem rd rs1 rs2) row at =
+    lowered (row rs2) 1 (are_low (held at rs1) (held at rs2) && nat_lt 0 (least_of (held at rs2)))
 made i row at = unknown
 
 -- the same of sums and products whose second register has a relation
@@ -150,6 +169,7 @@ abbrev pub made_too : Instr → (ℕ → Relation) → (ℕ → Option Arc) → 
 made_too (Reg Add rd rs1 rs2) row at = moved_by_arc (row rs2) (held at rs2) (held at rs1)
 made_too (Reg And rd rs1 rs2) row at = lowered (row rs2) 0 (is_some (held at rs2))
 made_too (Reg Mulhu rd rs1 rs2) row at = divided (row rs2) 0 (is_some (held at rs1) && is_some (held at rs2))
+made_too (Reg Mulh rd rs1 rs2) row at = divided (row rs2) 1 (are_low (held at rs1) (held at rs2))
 made_too i row at = unknown
 
 -- ---- what a branch says of the registers that it compares
