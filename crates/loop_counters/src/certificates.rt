@@ -22,8 +22,8 @@ use wrapped_intervals::Measure;
 /// Bounds from here on say nothing.
 const NO_BOUND: u32 = 0x8000_0000;
 
-/// Where a counter has such a bound, it is looked at what else turns do.
-const WIDE: u32 = 1_000_000_000;
+/// Where a counter has such a bound, it is looked at what else turns do: that of a pointer may be the size of its segment.
+const WIDE: u32 = 16;
 
 /// No number of a register.
 const NO_MEASURE: Measure = Measure {
