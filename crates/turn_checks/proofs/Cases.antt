@@ -10,7 +10,7 @@ use Rattle.stack_tables.specs.declared.claims.StackClaim.{StackClaim}
 use Rattle.value_checks.proofs.Laws.{once}
 use Rattle.stack_tables.specs.Tables.{address, stacks_in, text_in, values_in, IsStackClaim}
 use Rattle.stack_tables.proofs.Laws.{address_is}
-use Rattle.turn_laws.specs.Relating.{Kind, Place, Relation, is_halving, IsBegun, IsFilled, IsOwnBack, IsOwnOn, IsPlaceBack, IsPlaceOn, IsStarted, IsStartedIn, IsTurnBack, IsTurnOver, IsTurned, IsUsed}
+use Rattle.turn_laws.specs.Relating.{Place, Relation, is_halving, IsBegun, IsFilled, IsOwnBack, IsOwnOn, IsPlaceBack, IsPlaceOn, IsStarted, IsStartedIn, IsTurnBack, IsTurnOver, IsTurned, IsUsed}
 use Rattle.turn_laws.specs.Relating.Relation.{unknown}
 use Rattle.turn_laws.specs.Relating.Place.{in_register}
 use Rattle.turn_laws.specs.Relating.Kind.{lowers}

@@ -1,5 +1,5 @@
-use Rattle.std.proofs.Common.{◌∙◌, ap, refl, subst, sym}
-use Rattle.turn_laws.specs.Relating.{IsWeaker, Relation, consumed_by}
+use Rattle.std.proofs.Common.{◌∙◌, ap, subst, sym}
+use Rattle.turn_laws.specs.Relating.{IsWeaker, consumed_by}
 use Rattle.turn_laws.specs.Relating.Relation.{read}
 use Rattle.turn_checks.specs.Turned.{place_view, relation_view}
 use Rattle.turn_checks.proofs.Cases.{place_seen}

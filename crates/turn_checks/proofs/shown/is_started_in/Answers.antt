@@ -1,4 +1,4 @@
-use Rattle.std.proofs.Common.{ap, sym, subst}
+use Rattle.std.proofs.Common.{sym, subst}
 use Rattle.turn_laws.specs.Relating.{IsStartedIn}
 use Rattle.turn_checks.specs.Turned.{at_of, cert, place_view}
 use Rattle.turn_checks.specs.declared.tables.TurnPlace.{TurnPlace}
