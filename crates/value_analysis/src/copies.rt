@@ -142,7 +142,8 @@ impl Behind {
                 }
             }
         }
-        self.note_access(node.instr, self.nodes.len());
+        let count = self.nodes.len();
+        self.note_access(node.instr, count);
         Ok(())
     }
 

@@ -52,15 +52,21 @@ fn spared_nodes(alloc: Global, growth: &Growth<'_>, any: bool) -> Result<Vec<boo
     Ok(spared)
 }
 
-// Adds the spans that are known by intervals.
+// Adds the span of the register by which a node stores, where it is known by its interval.
+fn add_span(growth: &mut Growth<'_>, k: usize) {
+    let Some((r, arc)) = added_span(growth, k) else {
+        return;
+    };
+    let place = usize::from(r);
+    if k < growth.facts.len() && place < 32 {
+        growth.facts[k].spans[place] = Some(arc);
+    }
+}
+
+// The same at all nodes.
 fn add_spans(growth: &mut Growth<'_>) {
     for k in 0..growth.facts.len() {
-        if let Some((r, arc)) = added_span(growth, k) {
-            let place = usize::from(r);
-            if place < 32 {
-                growth.facts[k].spans[place] = Some(arc);
-            }
-        }
+        add_span(growth, k);
     }
 }
 
