@@ -18,7 +18,7 @@ const GAIN: u128 = 10;
 
 /// What a set has to save on the inputs to be proposed where some run may lose with it, in thousandths of the energy at the starting level. What saves less
 /// there often takes more on other inputs.
-const WORTH_RISK: u128 = 40;
+pub const WORTH_RISK: u128 = 40;
 
 /// The one that takes less, and the first where they take the same.
 fn better(one: Priced, other: Priced) -> Priced {

@@ -7,6 +7,7 @@ mod candidates;
 mod counted;
 mod growing;
 mod marks;
+mod paying;
 mod pricing;
 mod proposing;
 mod sets;

@@ -6,6 +6,8 @@ use crate::building::{Files, Places};
 use crate::candidates::{Known, MOST, loops_of};
 use crate::counted::add_counted;
 use crate::growing::best_sets;
+use crate::marks::energy_at;
+use crate::paying::{Tries, paying};
 use crate::pricing::{Search, input_cycles, least_of, shortest_of};
 use crate::sets::Priced;
 use code_graph::build_graph;
@@ -112,6 +114,8 @@ struct Program<'a> {
     start: u8,
     /// Whether some loop is noted as counted.
     counted: bool,
+    /// With each input the cycles of the original's run on it, where it counts.
+    cycles: &'a [Option<u64>],
 }
 
 /// Candidates, and what the runs do there.
@@ -214,11 +218,18 @@ fn propose_for<P: Progress>(
         most.min(8)
     };
     let mut proposals = search_program(alloc, program, runs, few, progress)?;
-    if counts {
-        let worst = program.numbers.worst;
-        add_counted(alloc, &program.files, worst, most, &mut proposals)?;
+    if !counts {
+        return Ok(proposals);
     }
-    Ok(proposals)
+    let worst = program.numbers.worst;
+    add_counted(alloc, &program.files, worst, most, &mut proposals)?;
+    let tries = Tries {
+        files: program.files,
+        runs,
+        cycles: program.cycles,
+        rate: energy_at(program.power, program.start),
+    };
+    paying(alloc, &tries, proposals, progress)
 }
 
 /// The proposals for files that nothing refuses.
@@ -246,6 +257,7 @@ fn search_files<P: Progress>(
         numbers: &numbers,
         start,
         counted: has_counted(&sources.notes),
+        cycles,
     };
     let runs = Runs {
         view: &sources.view,
@@ -259,7 +271,7 @@ fn search_files<P: Progress>(
 
 /// Up to 10 proposals that may save energy, the most promising one first: at most 8 of edges with a switch and loops that are tallied, as `pace` takes
 /// them with no other loop counted; and where some input counts and some loop is noted as counted, two that count these loops, alone and with the
-/// switches of the first proposal, where that adds few cycles to the worst case. None of their marks is one that can lower nothing, and there are fewer where the
+/// switches of the first proposal, where that adds few cycles to the worst case and the runs on inputs save four percent with them. None of their marks is one that can lower nothing, and there are fewer where the
 /// runs are long, since each is run on all inputs.
 /// None are given where the files are refused, and of edges and tallied loops none that doesn't promise to save at least one percent of what the runs take at one
 /// level, and four percent of what those on inputs take there; of these, one percent is enough where it adds at most one percent of the cycles of the shortest run
