@@ -1,6 +1,6 @@
 //! What an instruction of a loop leaves of relations.
 
-ghost use Rattle.std.specs.Prelude.{◌≡◌, ◌<◌, ◌&&◌, is_some, true, length};
+ghost use Rattle.std.specs.Prelude.{◌≡◌, ◌<◌, true, length};
 ghost use Rattle.bound_laws.specs.Values as values;
 ghost use Rattle.stack_tables.specs.Tables.{IsStackClaim, address, stacks_in, values_in};
 ghost use Rattle.stack_laws.specs.Stacks as stacks;
@@ -24,26 +24,6 @@ fn is_unknown(b: Relation) -> bool
     matches!(&b, Relation::Unknown)
 }
 
-// Whether both registers have intervals.
-fn are_words(claim: &StackClaim<'_>, k: usize, rs1: u8, rs2: u8) -> bool
-    requires claim { IsStackClaim claim.now }
-    requires node { k < length claim.now.graph.now.code.nodes }
-    ensures { result ≡ (is_some (values.held ((values_in claim.now).at (address claim.now k)) rs1) && is_some
-        (values.held ((values_in claim.now).at (address claim.now k)) rs2)) }
-{
-    held_at(claim, k, rs1).is_some() && held_at(claim, k, rs2).is_some()
-}
-
-// Whether neither register is a negative number.
-fn are_signless(claim: &StackClaim<'_>, k: usize, rs1: u8, rs2: u8) -> bool
-    requires claim { IsStackClaim claim.now }
-    requires node { k < length claim.now.graph.now.code.nodes }
-    ensures { result ≡ relating.are_low (values.held ((values_in claim.now).at (address claim.now k)) rs1)
-        (values.held ((values_in claim.now).at (address claim.now k)) rs2) }
-{
-    are_low(held_at(claim, k, rs1), held_at(claim, k, rs2))
-}
-
 // Whether an operation with a number leaves in its register what has a relation.
 fn is_made_by_number(
     claim: &StackClaim<'_>,
@@ -58,68 +38,29 @@ fn is_made_by_number(
     ensures { result ≡ true → relating.IsWeaker (relation_view b) (relating.made i
         (relating.row_of (certificate_in claim.now table.now) (address claim.now k)) ((values_in claim.now).at (address claim.now k))) }
 {
-    match i {
-        Instr::Imm {
-            op: ImmOp::Addi,
-            rd: _,
-            rs1,
-            imm,
-        } => is_moved_by_number(
-            b,
-            relation_at(claim, table, k, rs1),
-            held_at(claim, k, rs1),
-            imm.cast_unsigned(),
-        ),
-        Instr::Imm {
-            op: ImmOp::Andi,
-            rd: _,
-            rs1,
-            imm: _,
-        } => is_lowered(
-            b,
-            relation_at(claim, table, k, rs1),
-            0,
-            held_at(claim, k, rs1).is_some(),
-        ),
-        Instr::Imm {
-            op: ImmOp::Slli,
-            rd: _,
-            rs1,
-            imm,
-        } => is_multiplied(
-            b,
-            relation_at(claim, table, k, rs1),
-            held_at(claim, k, rs1),
-            imm.cast_unsigned() % 32,
-        ),
-        Instr::Imm {
-            op: ImmOp::Srli,
-            rd: _,
-            rs1,
-            imm,
-        } => is_divided(
-            b,
-            relation_at(claim, table, k, rs1),
-            imm.cast_unsigned() % 32,
-            held_at(claim, k, rs1).is_some(),
-        ),
-        Instr::Imm {
-            op: ImmOp::Srai,
-            rd: _,
-            rs1,
-            imm,
-        } => is_divided(
-            b,
-            relation_at(claim, table, k, rs1),
-            imm.cast_unsigned() % 32,
-            is_low(held_at(claim, k, rs1)),
-        ),
+    let Instr::Imm {
+        op,
+        rd: _,
+        rs1,
+        imm,
+    } = i
+    else {
+        return is_unknown(b);
+    };
+    let (first, one) = (relation_at(claim, table, k, rs1), held_at(claim, k, rs1));
+    let number = imm.cast_unsigned();
+    match op {
+        ImmOp::Addi => is_moved_by_number(b, first, one, number),
+        ImmOp::Andi => is_lowered(b, first, 0, one.is_some()),
+        ImmOp::Slli => is_multiplied(b, first, one, number % 32),
+        ImmOp::Srli => is_divided(b, first, number % 32, one.is_some()),
+        ImmOp::Srai => is_divided(b, first, number % 32, is_low(one)),
         _ => is_unknown(b),
     }
 }
 
 // The same of an operation with a second register.
-fn is_made_by_register(
+fn is_made_by_registers(
     claim: &StackClaim<'_>,
     table: &TurnTable,
     i: Instr,
@@ -132,168 +73,34 @@ fn is_made_by_register(
     ensures { result ≡ true → relating.IsWeaker (relation_view b) (relating.made i
         (relating.row_of (certificate_in claim.now table.now) (address claim.now k)) ((values_in claim.now).at (address claim.now k))) }
 {
-    match i {
-        Instr::Reg {
-            op: RegOp::Add,
-            rd: _,
-            rs1,
-            rs2,
-        } => is_moved_by_arc(
-            b,
-            relation_at(claim, table, k, rs1),
-            held_at(claim, k, rs1),
-            held_at(claim, k, rs2),
-        ),
-        Instr::Reg {
-            op: RegOp::Sub,
-            rd: _,
-            rs1,
-            rs2,
-        } => is_moved_back(
-            b,
-            relation_at(claim, table, k, rs1),
-            held_at(claim, k, rs1),
-            held_at(claim, k, rs2),
-        ),
-        Instr::Reg {
-            op: RegOp::And,
-            rd: _,
-            rs1,
-            rs2: _,
-        } => is_lowered(
-            b,
-            relation_at(claim, table, k, rs1),
-            0,
-            held_at(claim, k, rs1).is_some(),
-        ),
+    let Instr::Reg {
+        op,
+        rd: _,
+        rs1,
+        rs2,
+    } = i
+    else {
+        return is_unknown(b);
+    };
+    let first = relation_at(claim, table, k, rs1);
+    let second = relation_at(claim, table, k, rs2);
+    let (one, other) = (held_at(claim, k, rs1), held_at(claim, k, rs2));
+    let parts = 0 < least_of(other);
+    match op {
+        RegOp::Add => is_moved_by_arc(b, first, one, other),
+        RegOp::Sub => is_moved_back(b, first, one, other),
+        RegOp::And => is_lowered(b, first, 0, one.is_some()),
+        RegOp::Mulh => is_divided(b, first, 1, are_low(one, other)),
+        RegOp::Mulhu => is_divided(b, first, 0, one.is_some() && other.is_some()),
+        RegOp::Div => is_divided(b, first, bits_off(other), are_low(one, other) && parts),
+        RegOp::Divu => is_divided(b, first, bits_off(other), one.is_some() && parts),
+        RegOp::Rem => is_lowered(b, second, 1, are_low(one, other) && parts),
+        RegOp::Remu => is_lowered(b, second, 1, other.is_some() && parts),
         _ => is_unknown(b),
     }
 }
 
-// The same of the upper half of a product.
-fn is_made_by_product(
-    claim: &StackClaim<'_>,
-    table: &TurnTable,
-    i: Instr,
-    k: usize,
-    b: Relation,
-) -> bool
-    requires claim { IsStackClaim claim.now }
-    requires node { k < length claim.now.graph.now.code.nodes }
-    requires sized { AreTurns claim.now.graph.now.code.nodes table.now }
-    ensures { result ≡ true → relating.IsWeaker (relation_view b) (relating.made i
-        (relating.row_of (certificate_in claim.now table.now) (address claim.now k)) ((values_in claim.now).at (address claim.now k))) }
-{
-    match i {
-        Instr::Reg {
-            op: RegOp::Mulh,
-            rd: _,
-            rs1,
-            rs2,
-        } => is_divided(
-            b,
-            relation_at(claim, table, k, rs1),
-            1,
-            are_signless(claim, k, rs1, rs2),
-        ),
-        Instr::Reg {
-            op: RegOp::Mulhu,
-            rd: _,
-            rs1,
-            rs2,
-        } => is_divided(
-            b,
-            relation_at(claim, table, k, rs1),
-            0,
-            are_words(claim, k, rs1, rs2),
-        ),
-        _ => is_unknown(b),
-    }
-}
-
-// The same of a quotient.
-fn is_made_by_quotient(
-    claim: &StackClaim<'_>,
-    table: &TurnTable,
-    i: Instr,
-    k: usize,
-    b: Relation,
-) -> bool
-    requires claim { IsStackClaim claim.now }
-    requires node { k < length claim.now.graph.now.code.nodes }
-    requires sized { AreTurns claim.now.graph.now.code.nodes table.now }
-    ensures { result ≡ true → relating.IsWeaker (relation_view b) (relating.made i
-        (relating.row_of (certificate_in claim.now table.now) (address claim.now k)) ((values_in claim.now).at (address claim.now k))) }
-{
-    match i {
-        Instr::Reg {
-            op: RegOp::Div,
-            rd: _,
-            rs1,
-            rs2,
-        } => is_divided(
-            b,
-            relation_at(claim, table, k, rs1),
-            bits_off(held_at(claim, k, rs2)),
-            are_signless(claim, k, rs1, rs2) && 0 < least_of(held_at(claim, k, rs2)),
-        ),
-        Instr::Reg {
-            op: RegOp::Divu,
-            rd: _,
-            rs1,
-            rs2,
-        } => is_divided(
-            b,
-            relation_at(claim, table, k, rs1),
-            bits_off(held_at(claim, k, rs2)),
-            held_at(claim, k, rs1).is_some() && 0 < least_of(held_at(claim, k, rs2)),
-        ),
-        _ => is_unknown(b),
-    }
-}
-
-// The same of a remainder.
-fn is_made_by_remainder(
-    claim: &StackClaim<'_>,
-    table: &TurnTable,
-    i: Instr,
-    k: usize,
-    b: Relation,
-) -> bool
-    requires claim { IsStackClaim claim.now }
-    requires node { k < length claim.now.graph.now.code.nodes }
-    requires sized { AreTurns claim.now.graph.now.code.nodes table.now }
-    ensures { result ≡ true → relating.IsWeaker (relation_view b) (relating.made i
-        (relating.row_of (certificate_in claim.now table.now) (address claim.now k)) ((values_in claim.now).at (address claim.now k))) }
-{
-    match i {
-        Instr::Reg {
-            op: RegOp::Rem,
-            rd: _,
-            rs1,
-            rs2,
-        } => is_lowered(
-            b,
-            relation_at(claim, table, k, rs2),
-            1,
-            are_signless(claim, k, rs1, rs2) && 0 < least_of(held_at(claim, k, rs2)),
-        ),
-        Instr::Reg {
-            op: RegOp::Remu,
-            rd: _,
-            rs1: _,
-            rs2,
-        } => is_lowered(
-            b,
-            relation_at(claim, table, k, rs2),
-            1,
-            held_at(claim, k, rs2).is_some() && 0 < least_of(held_at(claim, k, rs2)),
-        ),
-        _ => is_unknown(b),
-    }
-}
-
-// The same with the registers exchanged.
+// The same by the second register of a sum or a product.
 fn is_made_too(claim: &StackClaim<'_>, table: &TurnTable, i: Instr, k: usize, b: Relation) -> bool
     requires claim { IsStackClaim claim.now }
     requires node { k < length claim.now.graph.now.code.nodes }
@@ -301,70 +108,22 @@ fn is_made_too(claim: &StackClaim<'_>, table: &TurnTable, i: Instr, k: usize, b:
     ensures { result ≡ true → relating.IsWeaker (relation_view b) (relating.made_too i
         (relating.row_of (certificate_in claim.now table.now) (address claim.now k)) ((values_in claim.now).at (address claim.now k))) }
 {
-    match i {
-        Instr::Reg {
-            op: RegOp::Add,
-            rd: _,
-            rs1,
-            rs2,
-        } => is_moved_by_arc(
-            b,
-            relation_at(claim, table, k, rs2),
-            held_at(claim, k, rs2),
-            held_at(claim, k, rs1),
-        ),
-        Instr::Reg {
-            op: RegOp::And,
-            rd: _,
-            rs1: _,
-            rs2,
-        } => is_lowered(
-            b,
-            relation_at(claim, table, k, rs2),
-            0,
-            held_at(claim, k, rs2).is_some(),
-        ),
-        _ => is_unknown(b),
-    }
-}
-
-// The same of the upper half of a product.
-fn is_product_made_too(
-    claim: &StackClaim<'_>,
-    table: &TurnTable,
-    i: Instr,
-    k: usize,
-    b: Relation,
-) -> bool
-    requires claim { IsStackClaim claim.now }
-    requires node { k < length claim.now.graph.now.code.nodes }
-    requires sized { AreTurns claim.now.graph.now.code.nodes table.now }
-    ensures { result ≡ true → relating.IsWeaker (relation_view b) (relating.made_too i
-        (relating.row_of (certificate_in claim.now table.now) (address claim.now k)) ((values_in claim.now).at (address claim.now k))) }
-{
-    match i {
-        Instr::Reg {
-            op: RegOp::Mulh,
-            rd: _,
-            rs1,
-            rs2,
-        } => is_divided(
-            b,
-            relation_at(claim, table, k, rs2),
-            1,
-            are_signless(claim, k, rs1, rs2),
-        ),
-        Instr::Reg {
-            op: RegOp::Mulhu,
-            rd: _,
-            rs1,
-            rs2,
-        } => is_divided(
-            b,
-            relation_at(claim, table, k, rs2),
-            0,
-            are_words(claim, k, rs1, rs2),
-        ),
+    let Instr::Reg {
+        op,
+        rd: _,
+        rs1,
+        rs2,
+    } = i
+    else {
+        return is_unknown(b);
+    };
+    let second = relation_at(claim, table, k, rs2);
+    let (one, other) = (held_at(claim, k, rs1), held_at(claim, k, rs2));
+    match op {
+        RegOp::Add => is_moved_by_arc(b, second, other, one),
+        RegOp::And => is_lowered(b, second, 0, other.is_some()),
+        RegOp::Mulh => is_divided(b, second, 1, are_low(one, other)),
+        RegOp::Mulhu => is_divided(b, second, 0, one.is_some() && other.is_some()),
         _ => is_unknown(b),
     }
 }
@@ -381,12 +140,8 @@ fn is_made_over(case: &TurnCase<'_>, i: Instr, k: usize, r: u8, b: Relation) -> 
         return false;
     }
     is_made_by_number(case.claim, case.table, i, k, b)
-        || is_made_by_register(case.claim, case.table, i, k, b)
-        || is_made_by_product(case.claim, case.table, i, k, b)
-        || is_made_by_quotient(case.claim, case.table, i, k, b)
-        || is_made_by_remainder(case.claim, case.table, i, k, b)
+        || is_made_by_registers(case.claim, case.table, i, k, b)
         || is_made_too(case.claim, case.table, i, k, b)
-        || is_product_made_too(case.claim, case.table, i, k, b)
 }
 
 // Whether a word is loaded to a register.
