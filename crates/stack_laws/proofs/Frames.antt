@@ -305,7 +305,7 @@ module _ (t : Text) (g : Graph) (v : Values) (w : Stacks) (inv : IsStackInvarian
             (λ (q : IsCoveredByAccess v w.areas i a b r ⊎ IsLimitedBy v (w.dwindling a) i a b r ⊎ IsSolvedByAccess v w.areas i a b r). ⊎_elim
             (λ (c : IsCoveredByAccess v w.areas i a b r). accessed_register v w.areas i a b r before after (kept r) (held_before r) (accesses r) c)
             (λ (o : IsLimitedBy v (w.dwindling a) i a b r ⊎ IsSolvedByAccess v w.areas i a b r). ⊎_elim
-            (λ (c : IsLimitedBy v (w.dwindling a) i a b r). limited_by v (w.dwindling a) a b i before after kept holds numbers results zero_before size_before zero_after size_after told.registers.each told.dwindling r c)
+            (λ (c : IsLimitedBy v (w.dwindling a) i a b r). limited_by v (w.dwindling a) a b i before after kept holds numbers results zero_before size_before zero_after size_after told.registers.each told.dwindling r is c)
             (λ (c : IsSolvedByAccess v w.areas i a b r). solved_register v w.areas i a b r before after (kept r) (holds r is) held_before told.registers.lines accesses c) o) q) u) z) y) x) (p.registers r is)
 
     -- over an edge
