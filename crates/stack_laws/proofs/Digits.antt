@@ -1,7 +1,7 @@
 -- A number that is divided and its count are so behind an instruction, where its edge is covered, and so is what follows for intervals.
 use Rattle.std.proofs.Common.{◌≡◌, ℕ, ◌+◌, ◌-◌, ◌*◌, ◌/◌, ◌<◌, ◌≤◌, ◌%◌, ◌^◌, ⊎_elim, Bool, true, false, List, length, refl, sym, ap, ◌∙◌, subst, arith, Option, Some, None}
-use Rattle.std.specs.Prelude.{ℤ, pos, ◌==◌, nat_lt, ◌*ℤ◌, int_div, int_shr, is_some, if◌then◌else◌}
-use Rattle.std.specs.Int.{w32}
+use Rattle.std.specs.Prelude.{ℤ, pos, ◌==◌, nat_lt, ◌*ℤ◌, int_div, is_some, if◌then◌else◌}
+use Rattle.std.specs.Int.{int_shr, w32}
 use Rattle.std.proofs.lemmas.Bool.{cond_both, ltb-true, ltb-false, eqb-true}
 use Rattle.std.proofs.lemmas.Int.{to_z_pos}
 use Rattle.std.proofs.lemmas.Nat.{pow_pos, pow-add}
@@ -202,15 +202,15 @@ module _ (v : Values) (dwindling : ℕ → Option Dwindling) (a b : ℕ) (i : In
       subst (λ k. k * 2 ^ lost ≤ reg before z.value)
       (ap (λ k. k / 2 ^ 32) (mul_comm (reg before z.value) (reg before other)) ∙ sym (results Mulh y.value other z.value is e ∙ low_product (reg before other) (reg before z.value) (low other two) (low z.value one)))
       (upper_less (reg before z.value) (reg before other) lost (shorter other lost short))
-  less z y lost is (added other e none no) =
+  less z y lost is (added other e nought gone) =
       none_lost (reg after y.value) (reg before z.value) lost
-      (subst (λ k. k ≤ reg before z.value) (sym (results Add y.value z.value other is e)) (sum_less (reg before z.value) (reg before other) (nothing other none))) no
-  less z y lost is (added_to other e none no) =
+      (subst (λ k. k ≤ reg before z.value) (sym (results Add y.value z.value other is e)) (sum_less (reg before z.value) (reg before other) (nothing other nought))) gone
+  less z y lost is (added_to other e nought gone) =
       none_lost (reg after y.value) (reg before z.value) lost
-      (subst (λ k. k ≤ reg before z.value) (sym (results Add y.value other z.value is e)) (other_sum_less (reg before z.value) (reg before other) (nothing other none))) no
-  less z y lost is (subtracted other e none no) =
+      (subst (λ k. k ≤ reg before z.value) (sym (results Add y.value other z.value is e)) (other_sum_less (reg before z.value) (reg before other) (nothing other nought))) gone
+  less z y lost is (subtracted other e nought gone) =
       none_lost (reg after y.value) (reg before z.value) lost
-      (subst (λ k. k ≤ reg before z.value) (sym (results Sub y.value z.value other is e)) (difference_less (reg before z.value) (reg before other) (nothing other none))) no
+      (subst (λ k. k ≤ reg before z.value) (sym (results Sub y.value z.value other is e)) (difference_less (reg before z.value) (reg before other) (nothing other nought))) gone
 
   counted : (z y : Dwindling) (more : ℕ) → IsRegister y.count → IsCounted v i a z y more → reg after y.count ≤ reg before z.count + more
   counted z y more is (left_count keep e none) =
