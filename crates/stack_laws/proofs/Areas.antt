@@ -17,7 +17,7 @@ use Rattle.scale_base.specs.State.{Setting, State, reg, word_at}
 use Rattle.scale_base.specs.Step.{Outcome, loads, stores, performs, step}
 use Rattle.bound_laws.specs.Registers.{Measure, keeps, measured}
 use Rattle.bound_laws.specs.Values.{Arc, IsIn, IsHeld, Covers, difference_of, held, meet_of, opposite_of, passed, scaled, sum_with, Values}
-use Rattle.bound_laws.proofs.Laws.{in_covers, in_word, measured_small, meet_of_in, only_one, scaled_in, solved_in, step_of, sum_in, sum_with_in, word_of}
+use Rattle.bound_laws.proofs.Laws.{in_covers, in_word, meet_of_in, only_one, scaled_in, solved_in, step_of, sum_in, sum_with_in, word_of}
 use Rattle.stack_laws.specs.Areas.{AreDisjoint, IsAccess, IsAccessedIn, IsCoveredByAccess, IsCutTo, IsLaidOut, IsSolvedByAccess, IsSolvedTo}
 use Rattle.stack_laws.specs.Areas.IsAccess.{loads as by_load, stores as by_store}
 use Rattle.stack_laws.specs.Areas.IsSolvedTo.{less, once}
