@@ -1,25 +1,25 @@
 -- A number that is divided and its count are so behind an instruction, where its edge is covered, and so is what follows for intervals.
-use Rattle.std.proofs.Common.{◌≡◌, ℕ, ◌+◌, ◌-◌, ◌*◌, ◌/◌, ◌<◌, ◌≤◌, ◌%◌, ◌^◌, Bool, true, false, List, length, refl, sym, ap, ◌∙◌, subst, arith, Option, Some, None}
-use Rattle.std.specs.Prelude.{ℤ, pos, ◌==◌, nat_lt, int_div, is_some, if◌then◌else◌}
-use Rattle.std.specs.Int.{w32}
+use Rattle.std.proofs.Common.{◌≡◌, ℕ, ◌+◌, ◌-◌, ◌*◌, ◌/◌, ◌<◌, ◌≤◌, ◌%◌, ◌^◌, ⊎_elim, Bool, true, false, List, length, refl, sym, ap, ◌∙◌, subst, arith, Option, Some, None}
+use Rattle.std.specs.Prelude.{ℤ, pos, ◌==◌, nat_lt, ◌*ℤ◌, int_div, is_some, if◌then◌else◌}
+use Rattle.std.specs.Int.{int_shr, w32}
 use Rattle.std.proofs.lemmas.Bool.{cond_both, ltb-true, ltb-false, eqb-true}
 use Rattle.std.proofs.lemmas.Int.{to_z_pos}
 use Rattle.std.proofs.lemmas.Nat.{pow_pos, pow-add}
 use Rattle.std.proofs.Math.Nat.{div-mul-le_self, lt_of_mul-lt-mul_left, lt_of_mul-lt-mul_right, mul-le-mul_left, mul-le-mul_right, mul-lt-mul_of_pos_right, mul_assoc, mul_comm, mul-add}
 use Rattle.std.proofs.Math.Pow.{pow_mono}
 use Rattle.scale_base.specs.declared.instruction.ImmOp.{ImmOp}
-use Rattle.scale_base.specs.declared.instruction.ImmOp.TheVariants.{Addi, Srli}
+use Rattle.scale_base.specs.declared.instruction.ImmOp.TheVariants.{Addi, Srli, Srai}
 use Rattle.scale_base.specs.declared.instruction.RegOp.{RegOp}
-use Rattle.scale_base.specs.declared.instruction.RegOp.TheVariants.{Div, Divu, Mulhu}
+use Rattle.scale_base.specs.declared.instruction.RegOp.TheVariants.{Add, Sub, Mulh, Mulhu, Div, Divu}
 use Rattle.scale_base.specs.declared.instruction.Instr.{Instr}
 use Rattle.scale_base.specs.declared.instruction.Instr.TheVariants.{Imm, Reg}
-use Rattle.scale_base.specs.Arith.{plus, signed, unsigned, imm_result, reg_result}
+use Rattle.scale_base.specs.Arith.{plus, signed, unsigned, upper_half, imm_result, reg_result}
 use Rattle.scale_base.specs.State.{reg}
 use Rattle.bound_laws.specs.Registers.{keeps}
-use Rattle.bound_laws.specs.Values.{Arc, IsIn, IsHeld, arc, held, least, least_of, top_of, passed, IsRegister, Values}
-use Rattle.bound_laws.proofs.Laws.{below_top, held_of, in_covers, word_of}
-use Rattle.stack_laws.specs.Digits.{Dwindling, IsDwindling, IsLess, IsCounted, IsDwindlingBy, IsDwindlingBehind, IsLimitedBy}
-use Rattle.stack_laws.specs.Digits.IsLess.{left, copied, shifted, divided, divided_low, multiplied, multiplied_by}
+use Rattle.bound_laws.specs.Values.{Arc, IsIn, IsHeld, arc, held, least, least_of, top_of, meet_of, passed, Covers, IsRegister, Values}
+use Rattle.bound_laws.proofs.Laws.{below_top, held_of, in_covers, meet_of_in, word_of}
+use Rattle.stack_laws.specs.Digits.{Dwindling, IsDwindling, IsLow, IsZero, IsShort, IsLess, IsCounted, IsDwindlingBy, IsDwindlingBehind, IsLimitedBy}
+use Rattle.stack_laws.specs.Digits.IsLess.{left, copied, shifted, shifted_low, divided, divided_low, multiplied, multiplied_by, multiplied_low, multiplied_by_low, added, added_to, subtracted}
 use Rattle.stack_laws.specs.Digits.IsCounted.{left as left_count, raised}
 use Rattle.stack_laws.specs.Digits.IsDwindlingBy.{known, handed}
 
@@ -94,10 +94,32 @@ divided_less n d other lost h = cond_both (d == 0) other (n / d) (λ k. k * 2 ^ 
 low_division : (n d : ℕ) → n < 2 ^ 31 → d < 2 ^ 31 → unsigned (int_div (signed n) (signed d)) ≡ n / d
 low_division n d x y = ap (λ z. unsigned (int_div z (signed d))) (to_z_pos w32 n x) ∙ ap (λ z. unsigned (int_div (pos n) z)) (to_z_pos w32 d y)
 
-upper_less : (n m : ℕ) → m < 2 ^ 32 → n * m / 2 ^ 32 ≤ n
-upper_less n m h =
-    let p : n * m ≤ n * 2 ^ 32 = mul-le-mul_left n (let r : m ≤ 2 ^ 32 = omega arith in r) in
-    omega arith
+-- the high word of a product with a short number
+upper_less : (n m lost : ℕ) → m * 2 ^ lost ≤ 2 ^ 32 → n * m / 2 ^ 32 * 2 ^ lost ≤ n
+upper_less n m lost short =
+    let q : ℕ = n * m / 2 ^ 32 in
+    let first : q * 2 ^ 32 * 2 ^ lost ≤ n * m * 2 ^ lost = mul-le-mul_right (2 ^ lost) (div-mul-le_self (n * m) (2 ^ 32)) in
+    let order : q * 2 ^ 32 * 2 ^ lost ≡ q * 2 ^ lost * 2 ^ 32 = mul_assoc q (2 ^ 32) (2 ^ lost) ∙ (ap (λ k. q * k) (mul_comm (2 ^ 32) (2 ^ lost)) ∙ sym (mul_assoc q (2 ^ lost) (2 ^ 32))) in
+    let second : n * m * 2 ^ lost ≤ n * 2 ^ 32 = subst (λ k. k ≤ n * 2 ^ 32) (sym (mul_assoc n m (2 ^ lost))) (mul-le-mul_left n short) in
+    cancelled (q * 2 ^ lost) n (let r : q * 2 ^ lost * 2 ^ 32 ≤ n * 2 ^ 32 = omega arith in r)
+  where
+    cancelled : (k n : ℕ) → k * 2 ^ 32 ≤ n * 2 ^ 32 → k ≤ n
+    cancelled k n h = omega arith
+
+low_product : (n m : ℕ) → n < 2 ^ 31 → m < 2 ^ 31 → upper_half (signed n *ℤ signed m) ≡ n * m / 2 ^ 32
+low_product n m x y = ap (λ z. upper_half (z *ℤ signed m)) (to_z_pos w32 n x) ∙ ap (λ z. upper_half (pos n *ℤ z)) (to_z_pos w32 m y)
+
+low_shift : (n k : ℕ) → n < 2 ^ 31 → unsigned (int_shr (signed n) k) ≡ n / 2 ^ k
+low_shift n k x = ap (λ z. unsigned (int_shr z k)) (to_z_pos w32 n x)
+
+sum_less : (n m : ℕ) → m ≤ 0 → plus n m ≤ n
+sum_less n m none = omega arith
+
+other_sum_less : (n m : ℕ) → m ≤ 0 → plus m n ≤ n
+other_sum_less n m none = omega arith
+
+difference_less : (n m : ℕ) → m ≤ 0 → (n + (2 ^ 32 - m)) % 2 ^ 32 ≤ n
+difference_less n m none = omega arith
 
 -- ---- the ends of intervals
 
@@ -132,8 +154,17 @@ module _ (v : Values) (dwindling : ℕ → Option Dwindling) (a b : ℕ) (i : In
   has : (r : ℕ) → IsHeld (held (v.at a) r) (reg before r)
   has r = held_of (v.at a) before zero_before size_before are r
 
-  low : (r : ℕ) → is_some (held (v.at a) r) ≡ true → top_of (held (v.at a) r) < 2 ^ 31 → reg before r < 2 ^ 31
-  low r some top = let most : reg before r ≤ top_of (held (v.at a) r) = to_top (held (v.at a) r) (reg before r) some (has r) in omega arith
+  low : (r : ℕ) → IsLow v a r → reg before r < 2 ^ 31
+  low r x = let most : reg before r ≤ top_of (held (v.at a) r) = to_top (held (v.at a) r) (reg before r) x.0 (has r) in let top : top_of (held (v.at a) r) < 2 ^ 31 = x.1 in omega arith
+
+  nothing : (r : ℕ) → IsZero v a r → reg before r ≤ 0
+  nothing r x = subst (λ k. reg before r ≤ k) x.1 (to_top (held (v.at a) r) (reg before r) x.0 (has r))
+
+  shorter : (r lost : ℕ) → IsShort v a r lost → reg before r * 2 ^ lost ≤ 2 ^ 32
+  shorter r lost x =
+      let most : reg before r * 2 ^ lost ≤ top_of (held (v.at a) r) * 2 ^ lost = mul-le-mul_right (2 ^ lost) (to_top (held (v.at a) r) (reg before r) x.0 (has r)) in
+      let top : top_of (held (v.at a) r) * 2 ^ lost ≤ 2 ^ 32 = x.1 in
+      omega arith
 
   far : (r lost : ℕ) → 2 ^ lost ≤ least_of (held (v.at a) r) → 2 ^ lost ≤ reg before r
   far r lost h = let least : least_of (held (v.at a) r) ≤ reg before r = from_least (held (v.at a) r) (reg before r) (has r) in omega arith
@@ -147,23 +178,39 @@ module _ (v : Values) (dwindling : ℕ → Option Dwindling) (a b : ℕ) (i : In
       (subst (λ k. k ≤ reg before z.value) (sym (numbers Addi y.value z.value imm is e)) (copied_less (reg before z.value) (unsigned imm) zero)) none
   less z y lost is (shifted imm e by few) =
       subst (λ k. k * 2 ^ lost ≤ reg before z.value) (sym (numbers Srli y.value z.value imm is e)) (shifted_less (reg before z.value) (unsigned imm) lost by few)
+  less z y lost is (shifted_low imm e by few one) =
+      subst (λ k. k * 2 ^ lost ≤ reg before z.value) (sym (numbers Srai y.value z.value imm is e ∙ low_shift (reg before z.value) (unsigned imm % 32) (low z.value one)))
+      (shifted_less (reg before z.value) (unsigned imm) lost by few)
   less z y lost is (divided d e least) =
       subst (λ k. k * 2 ^ lost ≤ reg before z.value) (sym (results Divu y.value z.value d is e))
       (divided_less (reg before z.value) (reg before d) (2 ^ 32 - 1) lost (far d lost least))
-  less z y lost is (divided_low d e top some top_by some_by least) =
+  less z y lost is (divided_low d e one two least) =
       let quotient : unsigned (int_div (signed (reg before z.value)) (signed (reg before d))) ≡ reg before z.value / reg before d =
-      low_division (reg before z.value) (reg before d) (low z.value some top) (low d some_by top_by) in
+      low_division (reg before z.value) (reg before d) (low z.value one) (low d two) in
       subst (λ k. k * 2 ^ lost ≤ reg before z.value) (sym (results Div y.value z.value d is e))
       (subst (λ k. (if reg before d == 0 then 2 ^ 32 - 1 else k) * 2 ^ lost ≤ reg before z.value) (sym quotient)
       (divided_less (reg before z.value) (reg before d) (2 ^ 32 - 1) lost (far d lost least)))
-  less z y lost is (multiplied other e some none) =
+  less z y lost is (multiplied other e short) =
+      subst (λ k. k * 2 ^ lost ≤ reg before z.value) (sym (results Mulhu y.value z.value other is e)) (upper_less (reg before z.value) (reg before other) lost (shorter other lost short))
+  less z y lost is (multiplied_by other e short) =
+      subst (λ k. k * 2 ^ lost ≤ reg before z.value) (ap (λ k. k / 2 ^ 32) (mul_comm (reg before z.value) (reg before other)) ∙ sym (results Mulhu y.value other z.value is e))
+      (upper_less (reg before z.value) (reg before other) lost (shorter other lost short))
+  less z y lost is (multiplied_low other e one two short) =
+      subst (λ k. k * 2 ^ lost ≤ reg before z.value) (sym (results Mulh y.value z.value other is e ∙ low_product (reg before z.value) (reg before other) (low z.value one) (low other two)))
+      (upper_less (reg before z.value) (reg before other) lost (shorter other lost short))
+  less z y lost is (multiplied_by_low other e one two short) =
+      subst (λ k. k * 2 ^ lost ≤ reg before z.value)
+      (ap (λ k. k / 2 ^ 32) (mul_comm (reg before z.value) (reg before other)) ∙ sym (results Mulh y.value other z.value is e ∙ low_product (reg before other) (reg before z.value) (low other two) (low z.value one)))
+      (upper_less (reg before z.value) (reg before other) lost (shorter other lost short))
+  less z y lost is (added other e nought gone) =
       none_lost (reg after y.value) (reg before z.value) lost
-      (subst (λ k. k ≤ reg before z.value) (sym (results Mulhu y.value z.value other is e))
-      (upper_less (reg before z.value) (reg before other) (word_of (held (v.at a) other) (reg before other) some (has other)))) none
-  less z y lost is (multiplied_by other e some none) =
+      (subst (λ k. k ≤ reg before z.value) (sym (results Add y.value z.value other is e)) (sum_less (reg before z.value) (reg before other) (nothing other nought))) gone
+  less z y lost is (added_to other e nought gone) =
       none_lost (reg after y.value) (reg before z.value) lost
-      (subst (λ k. k ≤ reg before z.value) (ap (λ k. k / 2 ^ 32) (mul_comm (reg before z.value) (reg before other)) ∙ sym (results Mulhu y.value other z.value is e))
-      (upper_less (reg before z.value) (reg before other) (word_of (held (v.at a) other) (reg before other) some (has other)))) none
+      (subst (λ k. k ≤ reg before z.value) (sym (results Add y.value other z.value is e)) (other_sum_less (reg before z.value) (reg before other) (nothing other nought))) gone
+  less z y lost is (subtracted other e nought gone) =
+      none_lost (reg after y.value) (reg before z.value) lost
+      (subst (λ k. k ≤ reg before z.value) (sym (results Sub y.value z.value other is e)) (difference_less (reg before z.value) (reg before other) (nothing other nought))) gone
 
   counted : (z y : Dwindling) (more : ℕ) → IsRegister y.count → IsCounted v i a z y more → reg after y.count ≤ reg before z.count + more
   counted z y more is (left_count keep e none) =
@@ -189,8 +236,8 @@ module _ (v : Values) (dwindling : ℕ → Option Dwindling) (a b : ℕ) (i : In
   dwindling_behind None x = tt
   dwindling_behind (Some y) x = dwindling_by y x.value x.count x.reason
 
-  pub limited_by : (r : ℕ) → IsLimitedBy v dwindling i a b r → IsHeld (v.at b r) (reg after r)
-  limited_by r x =
+  pub limited_by : (r : ℕ) → IsRegister r → IsLimitedBy v dwindling i a b r → IsHeld (v.at b r) (reg after r)
+  limited_by r is x =
       let y : Dwindling = x.pair in
       let was : reg before y.value * 2 ^ (y.bits * reg before y.count) < 2 ^ y.below = dwindling_at (dwindling x.number) y x.pair_is (dwindles x.number) in
       let number : least_of (held (passed i a b (v.at a)) y.value) ≤ reg after y.value = from_least (held (passed i a b (v.at a)) y.value) (reg after y.value) (held_of (passed i a b (v.at a)) after zero_after size_after holds y.value) in
@@ -199,4 +246,8 @@ module _ (v : Values) (dwindling : ℕ → Option Dwindling) (a b : ℕ) (i : In
       let now : reg before r ≤ x.most = limited (reg before y.value) (reg before r) x.bits y.bits y.below x.most (let q : 2 ^ x.bits ≤ reg before y.value = omega arith in q)
       (subst (λ k. reg before y.value * 2 ^ (y.bits * reg before k) < 2 ^ y.below) x.count was) x.enough in
       let word : reg before r < 2 ^ 32 = word_of (held (v.at a) r) (reg before r) x.known (has r) in
-      in_covers (Some (arc 0 x.most)) (v.at b r) (reg after r) (subst (IsIn (arc 0 x.most)) (sym (kept r x.count_left)) (from_zero (reg before r) x.most word now)) x.covers
+      let here : IsIn (arc 0 x.most) (reg after r) = subst (IsIn (arc 0 x.most)) (sym (kept r x.count_left)) (from_zero (reg before r) x.most word now) in
+      ⊎_elim
+      (λ (c : Covers (v.at b r) (Some (arc 0 x.most))). in_covers (Some (arc 0 x.most)) (v.at b r) (reg after r) here c)
+      (λ (c : Covers (v.at b r) (meet_of (Some (arc 0 x.most)) (passed i a b (v.at a) r))). in_covers (meet_of (Some (arc 0 x.most)) (passed i a b (v.at a) r)) (v.at b r) (reg after r) (meet_of_in (Some (arc 0 x.most)) (passed i a b (v.at a) r) (reg after r) here (holds r is)) c)
+      x.covers

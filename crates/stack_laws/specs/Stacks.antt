@@ -18,7 +18,7 @@ use Rattle.bound_laws.specs.Turning.{Leads, Calls}
 use Rattle.bound_laws.specs.Values.{Arc, IsIn, ahead, strided, word, exactly, top_of, sum_of, sum_with, opposite_of, held, IsHeld, Covers, said, passed, line_of, IsImpossible, keeps_at, IsRegister, Values, Steps, IsCovered, IsLineCovered, AreIn}
 use Rattle.stack_laws.specs.Making.{IsLineMade, IsSubtracted}
 use Rattle.stack_laws.specs.Cells.{Cell, IsCellHeld, IsBeside, IsStoredInto, IsLoadedFrom}
-use Rattle.stack_laws.specs.Areas.{IsAccessedIn, IsCoveredByAccess}
+use Rattle.stack_laws.specs.Areas.{IsAccessedIn, IsCoveredByAccess, IsSolvedByAccess}
 use Rattle.stack_laws.specs.Telling.{Told, IsTelling, IsToldBehind, IsToldTo}
 use Rattle.stack_laws.specs.Digits.{Dwindling, IsDwindling, IsDwindlingBehind, IsLimitedBy}
 
@@ -261,11 +261,13 @@ pub record IsCellLoaded (v : Values) (w : Stacks) (i : Instr) (a b r : ℕ) : Ty
   pub covers : Covers (v.at b r) (Some cell.values)
 
 -- a register's interval at b: as in an invariant of intervals, by its name, by a line of the difference that the instruction writes, by a
--- cell that it loads, by what another register tells, by where an access through it may be, or by how often a number is divided that it counts
+-- cell that it loads, by what another register tells, by where an access through it may be, by how often a number is divided that it counts, or
+-- by a line of it and of a register through which an access goes
 abbrev pub IsCoveredOver : Values → Stacks → Instr → ℕ → ℕ → ℕ → Type 0
 IsCoveredOver v w i a b r =
     IsCovered v i a b r ⊎ Covers (v.at b r) (name_arc v w b (w.name b r)) ⊎ IsSubtracted v i a b r ⊎ IsCellLoaded v w i a b r
     ⊎ IsToldTo v (w.told a) i a b r ⊎ IsCoveredByAccess v w.areas i a b r ⊎ IsLimitedBy v (w.dwindling a) i a b r
+    ⊎ IsSolvedByAccess v w.areas i a b r
 
 -- the register holds this number alone
 abbrev pub IsExactly : Values → ℕ → ℕ → Arc → Type 0
@@ -302,12 +304,11 @@ pub data IsWordNamed (v : Values) (w : Stacks) (i : Instr) (a b k : ℕ) : Type 
   kept : w.word_name b k ≡ w.word_name a k → IsMissed v w a i k → IsSteady v w a i (w.word_name a k) → IsWordNamed v w i a b k
   stored : (r : ℕ) → IsStoredFrom w a i k r → w.word_name b k ≡ name_of w a r → IsSteady v w a i (name_of w a r) → IsWordNamed v w i a b k
 
--- the register is a word at b, and its interval there, less what x2 had when the function began, where that is one number
+-- the register's interval at b, less what x2 had when the function began, where that is one number
 pub record IsSpannedByInterval (v : Values) (w : Stacks) (b r : ℕ) : Type 0 where
   pub begun : Arc
   pub begun_is : w.begins (v.function b) ≡ Some begun
   pub one : begun.more ≡ 0
-  pub known : is_some (v.at b r) ≡ true
   pub covers : Covers (w.span b r) (sum_with (v.at b r) (opposite_of begun.low))
 
 -- a register's span at b: the one it had, by its name, by a sum, by a word that is loaded, or by its interval
