@@ -13,7 +13,7 @@ ghost use Rattle.speed_sim.specs.Tallied.{tallied, AreCosts, IsPaid, IsAdvance, 
 
 use crate::costs::Prices;
 use crate::reporting::ImageRun;
-use crate::tally::Tally;
+use crate::tally::{Performed, Tally};
 use crate::watcher::Watches;
 use flat_memory::Memory;
 use power_model::{Meter, Power};
@@ -45,9 +45,9 @@ fn pay_known<M: Memory>(
 {
     let pc = machine.pc;
     let effect = step_decoded(machine, known);
-    let end = known.end(pc, effect, machine.pc);
-    tally.add_effect(prices, known, effect, &end);
-    end
+    let next = machine.pc;
+    tally.add_effect(prices, known, &Performed { pc, effect, next });
+    known.end(pc, effect, next)
 }
 
 /// One step of the machine, and its price.

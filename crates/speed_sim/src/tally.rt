@@ -21,8 +21,16 @@ pub struct Tally {
     ghost keyed_bound: { keyed ≤ 65535 * steps },
 }
 
+/// What an instruction at an address did, and the address after it.
+#[derive(Clone, Copy)]
+pub struct Performed {
+    pub pc: u32,
+    pub effect: Effect,
+    pub next: u32,
+}
+
 impl Tally {
-    ghost use Rattle.std.specs.Prelude.{◌≡◌, ◌≤◌, ◌<◌, ◌+◌, ◌^◌, ℕ, length, None};
+    ghost use Rattle.std.specs.Prelude.{◌≡◌, ◌≤◌, ◌<◌, ◌+◌, ◌^◌, length, None};
     ghost use Rattle.std.specs.Option.{ForSome};
     ghost use Rattle.scale_base.specs.Step.{PortBelow};
     ghost use Rattle.scale_base.specs.declared.stepping.Stepped.{Stepped};
@@ -108,26 +116,21 @@ impl Tally {
         }
     }
 
-    /// The same for a known instruction, which did this and ended so.
+    /// The same for a known instruction, by what it did.
     #[inline(always)]
-    pub fn add_effect(
-        &mut self,
-        prices: &Prices<'_>,
-        known: &Decoded,
-        effect: Effect,
-        end: &StepEnd,
-    )
+    pub fn add_effect(&mut self, prices: &Prices<'_>, known: &Decoded, done: &Performed)
         requires costs { AreCosts prices.now.power.now.costs prices.now.costs.by_class }
         requires level { self.old.meter.level < length prices.now.power.now.levels }
         requires few { self.old.meter.steps + self.old.steps < 2 ^ 40 }
-        requires to_level { PortBelow end.now (length prices.now.power.now.levels) }
-        requires end { (pc : ℕ) × (next : ℕ) × (end.now ≡ decoded_end known.now pc effect next) }
-        ensures { IsPaid prices.now.power.now end.now (tallied prices.now.power.now self.old) (tallied prices.now.power.now self.new) }
+        requires to_level { PortBelow (decoded_end known.now done.now.pc done.now.effect done.now.next)
+            (length prices.now.power.now.levels) }
+        ensures { IsPaid prices.now.power.now (decoded_end known.now done.now.pc done.now.effect done.now.next)
+            (tallied prices.now.power.now self.old) (tallied prices.now.power.now self.new) }
     {
-        match effect {
+        match done.effect {
             Effect::Went => self.add(prices.costs.of(known.untaken), known.keyed),
             Effect::Branched => self.add(prices.costs.of(known.taken), known.keyed),
-            _ => self.add_end(prices.power, end),
+            _ => self.add_end(prices.power, &known.end(done.pc, done.effect, done.next)),
         }
     }
 }

@@ -8,14 +8,10 @@ use Rattle.speed_sim.proofs.running.pay_known.Goals as goal
 
 pub add_effect-requires-clause-to_level : goal.add_effect-requires-clause-to_level
 add_effect-requires-clause-to_level g c =
-    subst (λ (end : StepEnd). PortBelow end (length c.args.prices.now.power.now.levels)) (sym c.end-end.ensures)
-    (port_below c.args.known.now c.args.machine.now.pc c.step_decoded-effect.result c.step_decoded-effect.new.machine.pc (length c.args.prices.now.power.now.levels)
-    (rw c.requires.levels at c.step_decoded-effect.ensures.level))
-
-pub add_effect-requires-clause-end : goal.add_effect-requires-clause-end
-add_effect-requires-clause-end g c = (c.args.machine.now.pc, c.step_decoded-effect.new.machine.pc, c.end-end.ensures)
+    port_below c.args.known.now c.args.machine.now.pc c.step_decoded-effect.result c.step_decoded-effect.new.machine.pc (length c.args.prices.now.power.now.levels)
+    (rw c.requires.levels at c.step_decoded-effect.ensures.level)
 
 pub returns-clause-port : goal.returns-clause-port
 returns-clause-port g c =
-    subst (λ (end : StepEnd). PortBelow end c.args.machine.now.levels) (sym c.end-end.ensures)
+    subst (λ (end : StepEnd). PortBelow end c.args.machine.now.levels) (sym c.end.ensures)
     (port_below c.args.known.now c.args.machine.now.pc c.step_decoded-effect.result c.step_decoded-effect.new.machine.pc c.args.machine.now.levels c.step_decoded-effect.ensures.level)
