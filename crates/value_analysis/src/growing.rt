@@ -20,7 +20,7 @@ use crate::states::{Facts, State, WORD_COUNT, facts_of};
 use crate::stores::arc_of;
 use crate::tables::Row;
 use crate::telling::{Telling, comparison_of, put_told, untold_nodes};
-use crate::thresholds::{Threshold, add_ends, add_limit};
+use crate::thresholds::{Limit, Threshold, add_ends, add_limit};
 use crate::ways::{Way, WayKind};
 use elf_image::ImageView;
 use scale_base::{Instr, NoMemory};
@@ -552,13 +552,13 @@ impl<'a> Growth<'a> {
         self.note_truth(&node, k)
     }
 
-    // Takes a number up to which a register may go as a threshold, of the register and of the word from which its value comes.
+    // Takes a number beyond which a register may not go as a threshold, of the register and of the word from which its value comes.
     fn note_limit(
         &mut self,
         f: usize,
         register: u8,
         name: Option<Name>,
-        limit: u32,
+        limit: Limit,
     ) -> Result<(), NoMemory> {
         if f >= self.thresholds.len() {
             return Ok(());
@@ -567,14 +567,15 @@ impl<'a> Growth<'a> {
         add_limit(thresholds, register, limit)?;
         match name {
             Some(Name::OfWord(k, more)) => {
-                add_limit(thresholds, word_key(k as usize), limit.wrapping_sub(more))
+                let key = word_key(k as usize);
+                add_limit(thresholds, key, limit.raised(more.wrapping_neg()))
             }
             _ => Ok(()),
         }
     }
 
-    // Takes what a line of a register and another one, which may go up to a number, says of the register as a threshold.
-    fn note_solved(&mut self, k: usize, f: usize, other: u8, limit: u32) -> Result<(), NoMemory> {
+    // Takes what a line of a register and another one, which has a limit, says of the register as a threshold.
+    fn note_solved(&mut self, k: usize, f: usize, other: u8, limit: Limit) -> Result<(), NoMemory> {
         let Some(facts) = self.facts.get(k) else {
             return Ok(());
         };
@@ -583,8 +584,8 @@ impl<'a> Growth<'a> {
         }
         let thresholds = &mut self.thresholds[f];
         for line in &facts.lines {
-            if let Some((r, word)) = self.forms.solved(line, other, limit) {
-                add_limit(thresholds, r, word)?;
+            if let Some((r, limit)) = self.forms.solved(line, other, limit) {
+                add_limit(thresholds, r, limit)?;
             }
         }
         Ok(())
@@ -603,7 +604,7 @@ impl<'a> Growth<'a> {
         let Some(limits) = access.limits(&self.areas, &facts.row) else {
             return Ok(());
         };
-        for limit in [limits.below, limits.behind] {
+        for limit in limits {
             self.note_limit(node.function, register, name, limit)?;
             self.note_solved(k, node.function, register, limit)?;
         }

@@ -16,27 +16,42 @@ const LEAST: u64 = 0x8000_0000;
 
 const GREATEST: u64 = 0x7FFF_FFFF;
 
-/// A number with which a register is compared, and whether it was the one number of the other register then.
+/// A number with which a register is compared, and whether it was the one number of the other register then; or the address below an area or behind it,
+/// where the register may go no further, less what is added to it.
 #[derive(Clone, Copy, PartialEq, Eq, PartialOrd, Ord, Drop)]
 pub struct Threshold {
     register: u8,
     pub word: u32,
     exact: bool,
+    below: bool,
+    behind: bool,
 }
 
-/// Whose thresholds are looked at: those of a register, or the one numbers that any is compared with.
+/// A number beyond which a register may not go: up, or else down.
+#[derive(Clone, Copy)]
+pub struct Limit {
+    pub word: u32,
+    pub is_upper: bool,
+}
+
+/// Whose thresholds are looked at: those with which a register is compared, the one numbers that any is compared with, or where a register may go no further
+/// down, or up.
 #[derive(Clone, Copy)]
 pub enum Whose {
     Of(u8),
     OfAny,
+    Below(u8),
+    Behind(u8),
 }
 
 impl Threshold {
     /// Whether it is one of those.
     pub fn is_for(&self, whose: Whose) -> bool {
         match whose {
-            Whose::Of(register) => self.register == register,
+            Whose::Of(register) => self.register == register && !self.below && !self.behind,
             Whose::OfAny => self.exact,
+            Whose::Below(register) => self.register == register && self.below,
+            Whose::Behind(register) => self.register == register && self.behind,
         }
     }
 }
@@ -64,6 +79,8 @@ fn add_about(
                 register,
                 word,
                 exact,
+                below: false,
+                behind: false,
             },
         )?;
     }
@@ -75,14 +92,30 @@ fn word_of(n: u64) -> u32 {
     (n % WORDS) as u32
 }
 
-/// Adds a number up to which a register may go.
-pub fn add_limit(thresholds: &mut Vec<Threshold>, register: u8, word: u32) -> Result<(), NoMemory> {
+impl Limit {
+    /// The same of a register that is so much more.
+    pub fn raised(self, n: u32) -> Limit {
+        Limit {
+            word: self.word.wrapping_add(n),
+            is_upper: self.is_upper,
+        }
+    }
+}
+
+/// Adds a number beyond which a register may not go.
+pub fn add_limit(
+    thresholds: &mut Vec<Threshold>,
+    register: u8,
+    limit: Limit,
+) -> Result<(), NoMemory> {
     add_threshold(
         thresholds,
         Threshold {
             register,
-            word,
+            word: limit.word,
             exact: false,
+            below: !limit.is_upper,
+            behind: limit.is_upper,
         },
     )
 }
