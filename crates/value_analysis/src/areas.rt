@@ -101,7 +101,7 @@ impl Access {
     pub fn held(&self, areas: &[Arc], row: &Row) -> Option<Arc> {
         let arc = self.addresses(row)?;
         let area = area_met(areas, arc)?;
-        let met = within(&Some(area), &Some(arc));
+        let met = within(&Some(arc), &Some(area));
         raised(met, self.offset.wrapping_neg())
     }
 

@@ -2,6 +2,7 @@
 
 use crate::cells::{Cells, Place};
 use crate::copies::{add_copies, add_differences};
+use crate::dividing::Divided;
 use crate::forms::Forms;
 use crate::growing::Growth;
 use crate::holding::narrow_numbers;
@@ -138,6 +139,7 @@ fn forms_of(alloc: Global, program: &Program, tree: &LoopTree) -> Result<Forms, 
     add_loops(alloc, &mut forms, program, tree)?;
     add_copies(alloc, &mut forms, program)?;
     add_differences(&mut forms, program)?;
+    forms.divided = Divided::of(alloc, program, tree)?;
     Ok(forms)
 }
 

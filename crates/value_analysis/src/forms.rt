@@ -3,6 +3,7 @@
 ghost use Rattle.std.specs.Prelude.{◌<◌};
 
 use crate::befores::before;
+use crate::dividing::Divided;
 use crate::passing::is_restorable;
 use crate::program::Program;
 use crate::thresholds::Limit;
@@ -29,12 +30,13 @@ pub struct Form {
 }
 
 /// The forms by number, the first of each family with the node at whose loop it is to begin at 0, if there is one, and by node the numbers of those that are
-/// looked for before it.
+/// looked for before it; and the registers that loops divide while they count.
 #[derive(Drop)]
 pub struct Forms {
     pub forms: Vec<Form>,
     pub families: Vec<Family>,
     pub wanted: Vec<Vec<usize>>,
+    pub divided: Divided,
     open: Vec<Want>,
 }
 
@@ -100,6 +102,7 @@ impl Forms {
             forms: Vec::new(alloc),
             families: Vec::new(alloc),
             wanted: no_wants(alloc, nodes)?,
+            divided: Divided::none(alloc),
             open: Vec::new(alloc),
         })
     }

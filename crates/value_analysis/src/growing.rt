@@ -7,6 +7,7 @@ use crate::arcs::holds;
 use crate::areas::{access_of, areas_of};
 use crate::calls::{CallSite, Callee, come_back, enter};
 use crate::cells::Cells;
+use crate::dwindling::Dwindled;
 use crate::forms::Forms;
 use crate::holding::{look_at_memory, put_loaded};
 use crate::joining::{Change, Counts, Growing, Pace, grow_arc, grow_plain_row, word_key};
@@ -249,6 +250,7 @@ impl<'a> Growth<'a> {
         self.tell(step, from, way, to);
         put_loaded(&self.cells, step.instr, &from.row, &mut to.row);
         self.trace(step, from, way, to);
+        self.dwindle(step, from, way, to);
         true
     }
 
@@ -273,7 +275,19 @@ impl<'a> Growth<'a> {
             from,
         };
         tracing.put_lines(way.to, to);
-        tracing.put_solved(to);
+        tracing.put_solved(&self.areas, to);
+    }
+
+    // Puts what flows over a step of registers that are divided.
+    fn dwindle(&self, step: Step, from: &Facts, way: &Way, to: &mut State) {
+        if !self.forms.divided.is_none() {
+            let dwindled = Dwindled {
+                divided: &self.forms.divided,
+                step,
+                from,
+            };
+            dwindled.put(way, to);
+        }
     }
 
     fn flow_by_call(&self, node: &Node, way: &Way, to: &mut State) -> bool {

@@ -38,6 +38,7 @@ impl Tables {
                 spared: Vec::new(alloc),
                 cells: Vec::new(alloc),
                 told: Vec::new(alloc),
+                dwindling: Vec::new(alloc),
                 areas: Vec::new(alloc),
             },
         }
@@ -52,6 +53,7 @@ impl Tables {
             words,
             lines,
             told,
+            dwindling,
         } = facts;
         self.values.rows.push(row)?;
         self.values.lines.push(lines)?;
@@ -59,6 +61,7 @@ impl Tables {
         self.stack.spans.push(spans)?;
         self.stack.words.push(words)?;
         self.stack.told.push(told)?;
+        self.stack.dwindling.push(dwindling)?;
         Ok(())
     }
 
