@@ -4,6 +4,7 @@ use Rattle.bound_laws.specs.Registers.{Measure, keeps}
 use Rattle.bound_laws.specs.Values.{Covers, word, IsRegister}
 use Rattle.stack_laws.specs.Making.{IsMade}
 use Rattle.stack_laws.specs.Telling.{IsToldBehind}
+use Rattle.stack_laws.specs.Digits.{IsDwindlingBehind}
 use Rattle.stack_laws.specs.Stacks.Name.{of_word}
 use Rattle.stack_laws.specs.Stacks.{Stacks, known_sum, more_of, name_of, name_span, span_of, IsBeginning}
 use Rattle.stack_laws.specs.Stacks.IsNamedOver.{summed as summed_over, loaded as loaded_over, loaded_as as loaded_as_over}
@@ -17,7 +18,7 @@ use Rattle.stack_laws.specs.Stacks.IsWordSpanBack.{by_name as by_name_back}
 use Rattle.stack_tables.specs.Tables.{IsUnknown}
 use Rattle.stack_checks.specs.declared.ways.Way.{Way}
 use Rattle.stack_checks.specs.declared.origins.Origin.TheVariants.{Plus, Loaded}
-use Rattle.stack_checks.specs.Checked.{from, stacks_along, to, told_before, values_along, ArePassedAlong, AreBackAlong, IsLineAlong, IsLineBehind, IsLineFrom, IsLineMadeAlong, IsSideOf, IsNamedAlong, IsOriginOf, IsRegisterBegun, IsRegisterBehind, IsRegisterPassed, IsSpannedAlong, IsWordBehind, IsWordPassed}
+use Rattle.stack_checks.specs.Checked.{dwindling_before, from, stacks_along, to, told_before, values_along, ArePassedAlong, AreBackAlong, IsLineAlong, IsLineBehind, IsLineFrom, IsLineMadeAlong, IsSideOf, IsNamedAlong, IsOriginOf, IsRegisterBegun, IsRegisterBehind, IsRegisterPassed, IsSpannedAlong, IsWordBehind, IsWordPassed}
 use Rattle.stack_checks.proofs.RowLines.{covers_none}
 
 pub unknown_passed : (x : Way) (j : ℕ) → IsUnknown (stacks_along x) (to x) j → IsWordPassed x j
@@ -55,8 +56,8 @@ line_made_so x j m n side other made covers = record { side = m; is_side = side;
 
 -- ---- all of them
 
-pub all_passed : (x : Way) → (values_along x).live (to x) ≡ true → ((j : ℕ) → IsLineAlong x j) → ((r : ℕ) → IsRegister r → IsRegisterPassed x r) → ((k : ℕ) → IsWordPassed x k) → ((j : ℕ) → IsToldBehind (values_along x) (told_before x) x.instr (from x) (to x) ((stacks_along x).told (to x) j)) → ArePassedAlong x
-all_passed x live lines registers words told = record {
+pub all_passed : (x : Way) → (values_along x).live (to x) ≡ true → ((j : ℕ) → IsLineAlong x j) → ((r : ℕ) → IsRegister r → IsRegisterPassed x r) → ((k : ℕ) → IsWordPassed x k) → ((j : ℕ) → IsToldBehind (values_along x) (told_before x) x.instr (from x) (to x) ((stacks_along x).told (to x) j)) → ((j : ℕ) → IsDwindlingBehind (values_along x) (dwindling_before x) x.instr (from x) (to x) ((stacks_along x).dwindling (to x) j)) → ArePassedAlong x
+all_passed x live lines registers words told dwindling = record {
   live = live;
   registers = λ r register. (registers r register).covered;
   lines = λ j. (lines j).covered;
@@ -66,20 +67,22 @@ all_passed x live lines registers words told = record {
   spans = λ r register. (registers r register).spanned;
   word_spans = λ k. (words k).spanned;
   told = told;
+  dwindling = dwindling;
 }
 
-pub begun_so : (w : Stacks) (a : ℕ) → ((r : ℕ) → IsRegister r → IsRegisterBegun w a r) → ((k : ℕ) → IsUnknown w a k) → ((j : ℕ) → w.told a j ≡ None) → IsBeginning w a
-begun_so w a registers words told = record {
+pub begun_so : (w : Stacks) (a : ℕ) → ((r : ℕ) → IsRegister r → IsRegisterBegun w a r) → ((k : ℕ) → IsUnknown w a k) → ((j : ℕ) → w.told a j ≡ None) → ((j : ℕ) → w.dwindling a j ≡ None) → IsBeginning w a
+begun_so w a registers words told dwindling = record {
   names = λ r register. (registers r register).name;
   words = λ k. (words k).arc;
   word_names = λ k. (words k).name;
   spans = λ r register. (registers r register).span;
   word_spans = λ k. (words k).span;
   told = told;
+  dwindling = dwindling;
 }
 
-pub all_back : (x : Way) (h : ℕ) → (values_along x).live (to x) ≡ true → ((j : ℕ) → IsLineBehind x h j) → ((r : ℕ) → IsRegister r → IsRegisterBehind x h r) → ((k : ℕ) → IsWordBehind x h k) → ((j : ℕ) → (stacks_along x).told (to x) j ≡ None) → AreBackAlong x h
-all_back x h live lines registers words told = record {
+pub all_back : (x : Way) (h : ℕ) → (values_along x).live (to x) ≡ true → ((j : ℕ) → IsLineBehind x h j) → ((r : ℕ) → IsRegister r → IsRegisterBehind x h r) → ((k : ℕ) → IsWordBehind x h k) → ((j : ℕ) → (stacks_along x).told (to x) j ≡ None) → ((j : ℕ) → (stacks_along x).dwindling (to x) j ≡ None) → AreBackAlong x h
+all_back x h live lines registers words told dwindling = record {
   live = live;
   registers = λ r register. (registers r register).back;
   lines = λ j. (lines j).back;
@@ -89,4 +92,5 @@ all_back x h live lines registers words told = record {
   spans = λ r register. (registers r register).span;
   word_spans = λ k. (words k).span;
   told = told;
+  dwindling = dwindling;
 }

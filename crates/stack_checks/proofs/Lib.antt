@@ -2,6 +2,8 @@ mod Loops
 mod CellRows
 mod RowLines
 mod Tellings
+mod Dwindlings
+mod Solvings
 mod Reaching
 mod Cases
 mod Confirmed

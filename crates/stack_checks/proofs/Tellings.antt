@@ -35,7 +35,7 @@ either_of v a op rs1 rs2 z y same one is_z is_y = ⊎_elim
 -- ---- rows
 
 -- what stands at a place of a row
-pub stands : (xs : List Told) (n : ℕ) (x : Told) → n < length xs → x ≡ get_or xs n x → slice_get xs n ≡ Some x
+pub stands : {A : Type 0} (xs : List A) (n : ℕ) (x : A) → n < length xs → x ≡ get_or xs n x → slice_get xs n ≡ Some x
 stands xs n x within is = slice_get-get_or xs n x within ∙ ap Some (sym is)
 
 pub told_of : (xs : List Told) (n : ℕ) (x : Told) (o : Option telling.Told) → told_in xs n ≡ o → slice_get xs n ≡ Some x → o ≡ Some (told_view x)

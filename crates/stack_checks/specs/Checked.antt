@@ -1,5 +1,5 @@
 -- Scaffold: what the code confirms of stacks: register by register, word by word, line by line and edge by edge.
-use Rattle.std.specs.Prelude.{◌≡◌, ℕ, ℤ, ◌<◌, ◌⊎◌, true, List, length, slice_get, Option, Some, None}
+use Rattle.std.specs.Prelude.{◌≡◌, ℕ, ℤ, ◌+◌, ◌*◌, ◌^◌, ◌<◌, ◌≤◌, ◌⊎◌, true, List, length, slice_get, is_some, Option, Some, None}
 use Rattle.std.specs.List.{All}
 use Rattle.scale_base.specs.declared.instruction.ImmOp.TheVariants.{Addi}
 use Rattle.scale_base.specs.declared.instruction.RegOp.TheVariants.{Add}
@@ -13,17 +13,21 @@ use Rattle.cost_theory.specs.Graph.{Graph}
 use Rattle.code_text.specs.Text.{Text, instr_at}
 use Rattle.bound_laws.specs.Registers.{Measure, keeps, measured}
 use Rattle.bound_laws.specs.Laws.{starting_registers}
-use Rattle.bound_laws.specs.Values.{Arc, Values, AreIn, Covers, IsCovered, IsHeld, IsIn, IsLineCovered, IsRegister, IsSolved, held, line_of, meet_of, passed}
+use Rattle.bound_laws.specs.Values.{Arc, Values, AreIn, Covers, IsCovered, IsHeld, IsIn, IsLineCovered, IsRegister, IsSolved, arc, held, least_of, line_of, meet_of, opposite_of, passed, sum_with}
 use Rattle.stack_laws.specs.Making.{IsLineMade, IsSide, IsSubtracted, IsSumBy}
 use Rattle.stack_laws.specs.Stacks.Name.{of_begin}
 use Rattle.stack_laws.specs.Stacks.{Stacks, name_span, IsBeginning, IsCoveredOver, IsLoadedTo, IsMissed, IsNamedOver, IsSpannedOver, IsStoredFrom, IsWordCovered, IsWordNamed, IsWordSpanned, ArePassed, IsPassed, IsCellKept, IsDescending, IsRestored, IsSafe, IsSparing, IsRegisterBack, IsNameBack, IsSpanBack, IsSumBack, IsWordBack, IsWordNameBack, IsWordSpanBack, AreEntered, AreBack, IsReturned}
 use Rattle.stack_laws.specs.Cells.{IsLoadedFrom}
-use Rattle.stack_laws.specs.Areas.{AreDisjoint, IsAccessedIn}
+use Rattle.stack_laws.specs.Areas.{AreDisjoint, IsAccessedIn, IsSolvedTo}
 use Rattle.stack_laws.specs.Telling as telling
+use Rattle.stack_laws.specs.Digits as digits
+use Rattle.wrapped_intervals.specs.Small.{IsKept}
 use Rattle.stack_tables.specs.declared.tables.Cell.{Cell}
 use Rattle.stack_tables.specs.declared.tables.Told.{Told}
-use Rattle.stack_tables.specs.Tables.{IsStackClaim, address, cell_view, stacks_in, text_in, told_view, values_in}
+use Rattle.stack_tables.specs.declared.tables.Dwindling.{Dwindling}
+use Rattle.stack_tables.specs.Tables.{IsStackClaim, address, cell_view, dwindling_view, stacks_in, text_in, told_view, values_in}
 use Rattle.stack_checks.specs.declared.cells.Loading.{Loading}
+use Rattle.stack_checks.specs.declared.solving.Based.{Based}
 use Rattle.stack_checks.specs.declared.ways.Way.{Way}
 use Rattle.stack_checks.specs.declared.origins.Origin.{Origin}
 use Rattle.stack_checks.specs.declared.origins.Origin.TheVariants.{Left, Plus, Sum, Loaded, Other}
@@ -160,15 +164,88 @@ pub record IsSomeTeller (x : Way) (row : List Told) (r : ℕ) : Type 0 where
   pub found_is : slice_get row number ≡ Some found
   pub of : IsTellerOf x r found
 
+-- what is divided before the instruction
+abbrev pub dwindling_before : Way → ℕ → Option digits.Dwindling
+dwindling_before x = (stacks_along x).dwindling (from x)
+
+abbrev pub IsDwindlingByAlong : Way → Dwindling → Type 0
+IsDwindlingByAlong x y = digits.IsDwindlingBy (values_along x) (dwindling_before x) x.instr (from x) (to x) (dwindling_view y)
+
+abbrev pub IsDwindlingAlong : Way → Dwindling → Type 0
+IsDwindlingAlong x y = digits.IsDwindlingOver (values_along x) (dwindling_before x) x.instr (from x) (to x) (dwindling_view y)
+
+abbrev pub IsLessAlong : Way → Dwindling → Dwindling → ℕ → Type 0
+IsLessAlong x z y lost = digits.IsLess (values_along x) x.instr (from x) (dwindling_view z) (dwindling_view y) lost
+
+abbrev pub IsCountedAlong : Way → Dwindling → Dwindling → ℕ → Type 0
+IsCountedAlong x z y more = digits.IsCounted (values_along x) x.instr (from x) (dwindling_view z) (dwindling_view y) more
+
+-- the instruction makes y of z
+pub record IsDividedOn (x : Way) (z y : Dwindling) : Type 0 where
+  pub lost : ℕ
+  pub more : ℕ
+  pub bits : z.bits ≡ y.bits
+  pub less : IsLessAlong x z y lost
+  pub counted : IsCountedAlong x z y more
+  pub room : z.below + y.bits * more ≤ y.below + lost
+
+-- of one of these
+pub record IsSomeDivided (x : Way) (row : List Dwindling) (y : Dwindling) : Type 0 where
+  pub number : ℕ
+  pub found : Dwindling
+  pub found_is : slice_get row number ≡ Some found
+  pub on : IsDividedOn x found y
+
+-- z's number is so great on the way that the register's interval holds all counts
+pub record IsLimit (x : Way) (r : ℕ) (z : Dwindling) : Type 0 where
+  pub bits : ℕ
+  pub least : 2 ^ bits ≤ least_of (held (passed_along x) z.value)
+  pub most : ℕ
+  pub enough : z.below ≤ bits + z.bits * (most + 1)
+  pub covers : Covers ((values_along x).at (to x) r) (Some (arc 0 most)) ⊎
+      Covers ((values_along x).at (to x) r) (meet_of (Some (arc 0 most)) (passed_along x r))
+
+-- z counts by the register, which is known and left, and its number is left too
+pub record IsLimitOf (x : Way) (r : ℕ) (z : Dwindling) : Type 0 where
+  pub count : z.count ≡ r
+  pub count_left : keeps r x.instr ≡ true
+  pub value_left : keeps z.value x.instr ≡ true
+  pub known : is_some (held ((values_along x).at (from x)) r) ≡ true
+  pub limit : IsLimit x r z
+
+-- one of these does
+pub record IsSomeLimit (x : Way) (row : List Dwindling) (r : ℕ) : Type 0 where
+  pub number : ℕ
+  pub found : Dwindling
+  pub found_is : slice_get row number ≡ Some found
+  pub of : IsLimitOf x r found
+
 -- what an interval and an area have in common is in another interval
 abbrev pub IsCutOf : Option Arc → Arc → Arc → Type 0
-IsCutOf i to area = AreDisjoint i area ⊎ Covers (Some to) (meet_of (Some area) i)
+IsCutOf i to area = AreDisjoint i area ⊎ Covers (Some to) (meet_of i (Some area))
 
 abbrev pub AreCutTo : List Arc → Option Arc → Arc → Type 0
 AreCutTo areas i to = All (IsCutOf i to) areas
 
 abbrev pub IsAccessedAlong : Way → ℕ → ℕ → Arc → Type 0
 IsAccessedAlong x r more place = IsAccessedIn (values_along x) (stacks_along x).areas x.instr (from x) r more place
+
+-- the register through which the instruction accesses memory, and what it is by where that may be
+pub record IsBased (x : Way) (b : Based) : Type 0 where
+  pub accessed : IsAccessedAlong x b.register b.more b.place
+  pub held : sum_with (Some b.place) (opposite_of b.more) ≡ Some b.held
+  pub kept : IsKept b.held
+
+-- a line of the register and of that one says what the register's interval holds
+pub record IsSolvedOn (x : Way) (r : ℕ) (b : Based) : Type 0 where
+  pub number : ℕ
+  pub form : Measure
+  pub is_side : IsSideOf x form number
+  pub register : form.register ≡ r
+  pub other : form.other ≡ b.register
+  pub solution : Option Arc
+  pub solves : IsSolvedTo form ((values_along x).lines (from x) number) (Some b.held) solution
+  pub covers : Covers ((values_along x).at (to x) r) solution ⊎ Covers ((values_along x).at (to x) r) (meet_of solution (passed_along x r))
 
 abbrev pub IsNamedAlong : Way → ℕ → Type 0
 IsNamedAlong x r = IsNamedOver (values_along x) (stacks_along x) x.instr (from x) (to x) r

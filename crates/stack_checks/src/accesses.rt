@@ -53,11 +53,11 @@ fn is_disjoint(i: Arc, area: Arc) -> bool
 // What an interval and the first area that isn't disjoint from it have in common.
 fn first_common(areas: &[Arc], i: Arc) -> Option<Arc>
     requires areas { All IsKept areas.now }
-    requires i { IsFound i }
+    requires i { IsKept i }
 {
     for area in areas {
         if !is_disjoint(i, *area) {
-            return meet_of(Some(*area), Some(i));
+            return meet_of(Some(i), Some(*area));
         }
     }
     None
@@ -66,17 +66,17 @@ fn first_common(areas: &[Arc], i: Arc) -> Option<Arc>
 // Whether an area has nothing in common with an interval, or no more than another interval holds.
 fn is_cut(area: Arc, i: Arc, to: Arc) -> bool
     requires area { IsKept area }
-    requires i { IsFound i }
+    requires i { IsKept i }
     requires to { IsKept to }
     ensures { result ≡ true → IsCutOf (Some i) to area }
 {
-    is_disjoint(i, area) || covers(Some(to), meet_of(Some(area), Some(i)))
+    is_disjoint(i, area) || covers(Some(to), meet_of(Some(i), Some(area)))
 }
 
 // The same of each area.
 fn are_cut(areas: &[Arc], i: Arc, to: Arc) -> bool
     requires areas { All IsKept areas.now }
-    requires i { IsFound i }
+    requires i { IsKept i }
     requires to { IsKept to }
     ensures { result ≡ true → AreCutTo areas.now (Some i) to }
 {
@@ -91,7 +91,7 @@ fn are_cut(areas: &[Arc], i: Arc, to: Arc) -> bool
 // An interval that holds what an interval and the areas have in common, where that is in one of them.
 fn cut(areas: &[Arc], i: Arc) -> Option<Arc>
     requires areas { All IsKept areas.now }
-    requires i { IsFound i }
+    requires i { IsKept i }
     ensures cut { IfSome result (λ to. AreCutTo areas.now (Some i) to) }
     ensures kept { IsKeptOr result }
 {
@@ -115,7 +115,13 @@ fn cut_of(areas: &[Arc], i: Option<Arc>) -> Option<Arc>
     ensures kept { IsKeptOr result }
 {
     match i {
-        Some(i) => cut(areas, i),
+        Some(i) => {
+            if is_kept(Some(i)) {
+                cut(areas, i)
+            } else {
+                None
+            }
+        }
         None => None,
     }
 }

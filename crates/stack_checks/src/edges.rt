@@ -13,6 +13,7 @@ ghost use Rattle.stack_tables.specs.Tables.{IsStackClaim, address, stacks_in, te
 
 use crate::calls::{are_registers_begun, are_registers_behind, are_registers_returned};
 use crate::cells::are_cells_kept;
+use crate::dwindling::{are_dwindling_passed, is_none_dwindling};
 use crate::lines::{are_lines_behind, are_lines_covered};
 use crate::registers::{are_registers_covered, are_registers_passed};
 use crate::telling::{are_told_passed, is_none_told};
@@ -64,6 +65,9 @@ fn are_passed(way: &Way<'_>) -> bool
     if !are_told_passed(way) {
         return false;
     }
+    if !are_dwindling_passed(way) {
+        return false;
+    }
     are_words_passed(way)
 }
 
@@ -85,6 +89,9 @@ pub fn is_beginning(claim: &StackClaim<'_>, n: usize) -> bool
         return false;
     }
     if !is_none_told(claim, n) {
+        return false;
+    }
+    if !is_none_dwindling(claim, n) {
         return false;
     }
     are_unknown(claim, n)
@@ -149,6 +156,9 @@ fn are_back(way: &Way<'_>, h: usize) -> bool
         return false;
     }
     if !is_none_told(way.claim, way.to) {
+        return false;
+    }
+    if !is_none_dwindling(way.claim, way.to) {
         return false;
     }
     are_words_behind(way, h)

@@ -199,8 +199,8 @@ pub fn are_lines_covered(way: &Way<'_>) -> bool
 
 // ---- a register by a line
 
-// Whether a register's interval behind the instruction is known.
-fn is_known_behind(way: &Way<'_>, r: u8) -> bool
+/// Whether a register's interval behind the instruction is known.
+pub fn is_known_behind(way: &Way<'_>, r: u8) -> bool
     requires way { IsWay way.now }
     requires register { r < 32 }
     ensures { result ≡ true → is_some (passed_along way.now r) ≡ true }

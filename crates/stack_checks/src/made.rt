@@ -16,8 +16,8 @@ use scale_base::{Instr, RegOp};
 use stack_tables::{arcs, form, held_at, line, lines};
 use wrapped_intervals::{Arc, Measure, covers, line_of};
 
-// The same sum, the other way round.
-fn turned(m: Measure) -> Measure
+/// The same sum, the other way round.
+pub fn turned(m: Measure) -> Measure
     ensures { measure_view result ≡ making.turned (measure_view m) }
 {
     Measure {

@@ -12,9 +12,11 @@ ghost use Rattle.stack_checks.specs.Checked.{IsCoveredAlong, IsNamedAlong, IsOri
 
 use crate::accesses::is_covered_by_access;
 use crate::cells::is_cell_loaded;
+use crate::dwindling::is_limited_by;
 use crate::lines::is_solved;
 use crate::made::is_subtracted;
 use crate::origins::{Origin, origin_of};
+use crate::solving::is_solved_by_access;
 use crate::telling::is_told_to;
 use crate::ways::{Way, arc_before, arc_behind, passed_on};
 use stack_tables::{
@@ -47,7 +49,8 @@ pub fn is_covered_by_name(claim: &StackClaim<'_>, n: usize, r: u8) -> bool
 }
 
 // Whether one of both does, or a line of the difference that the instruction writes, or a cell that it loads, or what another one tells, or
-// where the access through it may be.
+// where the access through it may be, or how often a number can be divided that it counts, or a line of it and
+// of a register through which an access goes.
 fn is_covered_over(way: &Way<'_>, r: u8) -> bool
     requires way { IsWay way.now }
     requires register { r < 32 }
@@ -69,7 +72,13 @@ fn is_covered_over(way: &Way<'_>, r: u8) -> bool
     if is_told_to(way, r) {
         return true;
     }
-    is_covered_by_access(way, r)
+    if is_covered_by_access(way, r) {
+        return true;
+    }
+    if is_limited_by(way, r) {
+        return true;
+    }
+    is_solved_by_access(way, r)
 }
 
 // ---- names
@@ -321,16 +330,13 @@ fn is_span_by_origin(way: &Way<'_>, r: u8) -> bool
 fn is_span_of_interval(way: &Way<'_>, r: u8, begun: u64) -> bool
     requires way { IsWay way.now }
     requires register { r < 32 }
-    ensures known { result ≡ true → is_some ((values_along way.now).at (to way.now) r) ≡ true }
-    ensures covers { result ≡ true → values.Covers ((stacks_along way.now).span (to way.now) r)
+    ensures { result ≡ true → values.Covers ((stacks_along way.now).span (to way.now) r)
         (values.sum_with ((values_along way.now).at (to way.now) r) (values.opposite_of begun)) }
 {
-    let interval = arc_behind(way, r);
-    interval.is_some()
-        && covers(
-            span(way.claim, way.to, r),
-            sum_with(interval, opposite_of(begun)),
-        )
+    covers(
+        span(way.claim, way.to, r),
+        sum_with(arc_behind(way, r), opposite_of(begun)),
+    )
 }
 
 // Whether it holds its interval less what x2 had when the function began, where that is one number.

@@ -13,12 +13,10 @@ ghost use Rattle.wrapped_intervals.specs.Small.{IsFoundOr};
 ghost use Rattle.stack_tables.specs.Tables.{IsStackClaim, IsToldKept, address, stacks_in, told_view};
 ghost use Rattle.stack_checks.specs.Checked.{IsComparedAlong, IsHandedAlong, IsHandedOn, IsSomeHanded, IsSomeTeller, IsTellerOf, IsToldAlong, IsWay, from, passed_along, stacks_along, to, told_before, values_along};
 
-use crate::ways::{Way, arc_behind, held_on, is_left, passed_on};
+use crate::ways::{Way, held_on, is_left, is_within, passed_on};
 use scale_base::{BranchOp, ImmOp, Instr, RegOp};
 use stack_tables::{StackClaim, Told, held_at, told};
-use wrapped_intervals::{
-    Arc, ahead, covers, exactly, first_by, keeps, meet_of, second_by, sum_with,
-};
+use wrapped_intervals::{Arc, ahead, covers, exactly, first_by, keeps, second_by, sum_with};
 
 // ---- comparisons
 
@@ -475,18 +473,6 @@ pub fn is_none_told(claim: &StackClaim<'_>, n: usize) -> bool
 
 // ---- registers
 
-// Whether a register's interval where the way leads holds what is told of it, or what of that it may be.
-fn is_told_within(way: &Way<'_>, z: &Told, r: u8) -> bool
-    requires way { IsWay way.now }
-    requires z { IsToldKept z.now }
-    requires register { r < 32 }
-    ensures { result ≡ true → values.Covers ((values_along way.now).at (to way.now) r) (Some z.now.arc) ⊎
-        values.Covers ((values_along way.now).at (to way.now) r) (values.meet_of (Some z.now.arc) (passed_along way.now r)) }
-{
-    covers(arc_behind(way, r), Some(z.arc))
-        || covers(arc_behind(way, r), meet_of(Some(z.arc), passed_on(way, r)))
-}
-
 // Whether z tells that of the register, and its teller is so on the way.
 fn is_teller_of(way: &Way<'_>, z: &Told, r: u8) -> bool
     requires way { IsWay way.now }
@@ -506,7 +492,7 @@ fn is_teller_of(way: &Way<'_>, z: &Told, r: u8) -> bool
     if !are_so(z.zero, held_on(way, z.teller)) {
         return false;
     }
-    is_told_within(way, z, r)
+    is_within(way, r, z.arc)
 }
 
 // Whether some of a row does.

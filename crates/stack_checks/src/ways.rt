@@ -1,14 +1,14 @@
 //! An instruction and the node to which it leads.
 
-ghost use Rattle.std.specs.Prelude.{◌≡◌, ◌<◌, IfSome, Some, true};
+ghost use Rattle.std.specs.Prelude.{◌≡◌, ◌<◌, ◌⊎◌, IfSome, Some, true};
 ghost use Rattle.bound_laws.specs.Registers.{keeps};
 ghost use Rattle.bound_laws.specs.Values as values;
-ghost use Rattle.wrapped_intervals.specs.Small.{IsFoundOr, IsKeptOr};
+ghost use Rattle.wrapped_intervals.specs.Small.{IsFoundOr, IsKept, IsKeptOr};
 ghost use Rattle.stack_checks.specs.Checked.{IsWay, from, passed_along, to, values_along};
 
 use scale_base::Instr;
 use stack_tables::{StackClaim, address, arc_at, arcs, line};
-use wrapped_intervals::{Arc, covers, is_kept, keeps, passed, sum_with};
+use wrapped_intervals::{Arc, covers, is_kept, keeps, meet_of, passed, sum_with};
 
 /// An instruction of a program with its tables, by the number of its node, and the node to which it leads or behind which it comes back.
 #[derive(Clone, Copy)]
@@ -87,6 +87,18 @@ pub fn arc_behind(way: &Way<'_>, r: u8) -> Option<Arc>
     ensures kept { IsKeptOr result }
 {
     arc_at(way.claim, way.to, r)
+}
+
+/// Whether a register's interval where the way leads holds what is known of it, or what of that the instruction leaves.
+pub fn is_within(way: &Way<'_>, r: u8, known: Arc) -> bool
+    requires way { IsWay way.now }
+    requires register { r < 32 }
+    requires known { IsKept known }
+    ensures { result ≡ true → values.Covers ((values_along way.now).at (to way.now) r) (Some known) ⊎
+        values.Covers ((values_along way.now).at (to way.now) r) (values.meet_of (Some known) (passed_along way.now r)) }
+{
+    covers(arc_behind(way, r), Some(known))
+        || covers(arc_behind(way, r), meet_of(Some(known), passed_on(way, r)))
 }
 
 /// What line k was, with so much more.

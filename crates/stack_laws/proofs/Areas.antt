@@ -1,5 +1,5 @@
 -- What a load or a store of a step that goes on says of its address, and what that says of its register.
-use Rattle.std.proofs.Common.{◌≡◌, ℕ, zero, suc, ◌+◌, ◌-◌, ◌<◌, ◌≤◌, ◌%◌, ◌^◌, ⊎_elim, Bool, true, false, List, length, refl, sym, ap, ◌∙◌, subst, arith, Option, Some, None}
+use Rattle.std.proofs.Common.{◌≡◌, ℕ, zero, suc, ◌+◌, ◌-◌, ◌*◌, ◌<◌, ◌≤◌, ◌%◌, ◌^◌, ⊎_elim, Bool, true, false, List, length, refl, sym, ap, ◌∙◌, subst, arith, Option, Some, None}
 use Rattle.std.specs.Prelude.{◌==◌, ◌||◌, ◌&&◌, not}
 use Rattle.std.proofs.lemmas.Bool.{cond_both, and_parts, or_left, or_right}
 use Rattle.scale_base.specs.declared.instruction.LoadOp.{LoadOp}
@@ -15,14 +15,16 @@ use Rattle.scale_base.specs.Layout.{can_read, can_write, each_byte, in_option, i
 use Rattle.scale_base.specs.Arith.{plus, moved_by, load_width, store_width}
 use Rattle.scale_base.specs.State.{Setting, State, reg, word_at}
 use Rattle.scale_base.specs.Step.{Outcome, loads, stores, performs, step}
-use Rattle.bound_laws.specs.Registers.{keeps}
-use Rattle.bound_laws.specs.Values.{Arc, IsIn, IsHeld, Covers, held, meet_of, opposite_of, sum_with, Values}
-use Rattle.bound_laws.proofs.Laws.{in_covers, meet_of_in, only_one, step_of, sum_with_in, word_of}
-use Rattle.stack_laws.specs.Areas.{AreDisjoint, IsAccess, IsAccessedIn, IsCoveredByAccess, IsCutTo, IsLaidOut}
+use Rattle.bound_laws.specs.Registers.{Measure, keeps, measured}
+use Rattle.bound_laws.specs.Values.{Arc, IsIn, IsHeld, Covers, difference_of, held, meet_of, opposite_of, passed, scaled, sum_with, Values}
+use Rattle.bound_laws.proofs.Laws.{in_covers, in_word, measured_small, meet_of_in, only_one, scaled_in, solved_in, step_of, sum_in, sum_with_in, word_of}
+use Rattle.stack_laws.specs.Areas.{AreDisjoint, IsAccess, IsAccessedIn, IsCoveredByAccess, IsCutTo, IsLaidOut, IsSolvedByAccess, IsSolvedTo}
 use Rattle.stack_laws.specs.Areas.IsAccess.{loads as by_load, stores as by_store}
+use Rattle.stack_laws.specs.Areas.IsSolvedTo.{less, once}
 use Rattle.stack_laws.specs.Stacks.{IsNamed, IsSpanned, IsSpannedByInterval, Stacks, View, view_of, AreTold}
 use Rattle.stack_laws.specs.Stacks.Name.{of_word}
 use Rattle.stack_laws.proofs.Stores.{no_window}
+use Rattle.stack_laws.proofs.Making.{side_is}
 use Rattle.stack_laws.proofs.Naming.{spanned_covers, spanned_from}
 use Rattle.stack_laws.proofs.Stepping.{held_at}
 
@@ -97,7 +99,7 @@ apart (Some i) x n a b h = disjoint i.low i.more x.low x.more n a.start b.start 
 cut_in : (areas : ℕ → Option Arc) (i : Option Arc) (c : Arc) (n : ℕ) → IsCutTo areas i c → IsHeld i n → (k : ℕ) × (x : Arc) × (areas k ≡ Some x) × IsIn x n → IsIn c n
 cut_in areas i c n cut h area = ⊎_elim
     (λ (none : AreDisjoint i area.1). absurd (apart i area.1 n h area.3 none))
-    (λ (covers : Covers (Some c) (meet_of (Some area.1) i)). in_covers (meet_of (Some area.1) i) (Some c) n (meet_of_in (Some area.1) i n area.3 h) covers) (cut area.0 area.1 area.2)
+    (λ (covers : Covers (Some c) (meet_of i (Some area.1))). in_covers (meet_of i (Some area.1)) (Some c) n (meet_of_in i (Some area.1) n h area.3) covers) (cut area.0 area.1 area.2)
 
 -- the address of an access is in the interval
 module _ (env : Setting) (keyless : env.layout.keyed ≡ None) (v : Values) (w : Stacks) (offsets : (k : ℕ) → w.offset k < 2 ^ 32) (s : State) (zero_is : reg s.regs 0 ≡ 0) (size : length s.regs ≡ 32) (begun : List ℕ)
@@ -127,6 +129,58 @@ accessed_register v areas i a b r before after kept holds places x =
     let from : IsHeld (sum_with (Some x.place) (opposite_of x.more)) (plus (plus (reg before r) x.more) (opposite_of x.more)) = sum_with_in (Some x.place) (opposite_of x.more) (plus (reg before r) x.more) (places x.more x.place x.accessed) in
     in_covers (sum_with (Some x.place) (opposite_of x.more)) (v.at b r) (reg after r)
     (subst (IsHeld (sum_with (Some x.place) (opposite_of x.more))) (given_back (reg before r) x.more small ∙ sym (kept x.left)) from) x.covers
+
+-- ---- a register by a line of it and of a register through which an access goes
+
+minus_in : (i j : Option Arc) (a b : ℕ) → IsHeld i a → IsHeld j b → IsHeld (difference_of i j) (plus a ((2 ^ 32 - 1) * b % 2 ^ 32))
+minus_in i None a b x y = in_word (plus a ((2 ^ 32 - 1) * b % 2 ^ 32)) (omega arith)
+minus_in i (Some j) a b x y = sum_in i (scaled (2 ^ 32 - 1) (Some j)) a ((2 ^ 32 - 1) * b % 2 ^ 32) x (scaled_in (2 ^ 32 - 1) (Some j) b y)
+
+less_is : (shift value rest : ℕ) → value < 2 ^ 32 → ((rest % 2 ^ 32 + (2 ^ 32 - 1) * ((shift + (2 ^ 32 - 1) * value + rest) % 2 ^ 32) % 2 ^ 32) % 2 ^ 32 + shift) % 2 ^ 32 ≡ value
+less_is shift value rest lt = omega arith
+
+solved_less : (m : Measure) (line other : Option Arc) (regs : List ℕ) → m.factor ≡ 2 ^ 32 - 1 → reg regs m.register < 2 ^ 32 → IsHeld line (measured m regs) → IsHeld other (reg regs m.other) →
+    IsHeld (sum_with (difference_of (scaled m.other_factor other) line) m.shift) (reg regs m.register)
+solved_less m line other regs factor small a b =
+    let value : ℕ = reg regs m.register in
+    let rest : ℕ = m.other_factor * reg regs m.other in
+    let all = sum_with_in (difference_of (scaled m.other_factor other) line) m.shift (plus (rest % 2 ^ 32) ((2 ^ 32 - 1) * measured m regs % 2 ^ 32))
+    (minus_in (scaled m.other_factor other) line (rest % 2 ^ 32) (measured m regs) (scaled_in m.other_factor other (reg regs m.other) b) a) in
+    let e : measured m regs ≡ (m.shift + (2 ^ 32 - 1) * value + rest) % 2 ^ 32 = ap (λ f. (m.shift + f * value + rest) % 2 ^ 32) factor in
+    subst (IsHeld (sum_with (difference_of (scaled m.other_factor other) line) m.shift)) (ap (λ n. plus (plus (rest % 2 ^ 32) ((2 ^ 32 - 1) * n % 2 ^ 32)) m.shift) e ∙ less_is m.shift value rest small) all
+
+solved_to : (m : Measure) (line other solution : Option Arc) (regs : List ℕ) → reg regs m.register < 2 ^ 32 → IsHeld line (measured m regs) → IsHeld other (reg regs m.other) → IsSolvedTo m line other solution →
+    IsHeld solution (reg regs m.register)
+solved_to m line other solution regs small a b (once one is) = subst (λ o. IsHeld o (reg regs m.register)) (sym is) (solved_in m line other regs one small a b)
+solved_to m line other solution regs small a b (less factor is) = subst (λ o. IsHeld o (reg regs m.register)) (sym is) (solved_less m line other regs factor small a b)
+
+pub solved_register : (v : Values) (areas : ℕ → Option Arc) (i : Instr) (a b r : ℕ) (before after : List ℕ) → (keeps r i ≡ true → reg after r ≡ reg before r) → IsHeld (passed i a b (v.at a) r) (reg after r) →
+    ((s : ℕ) → IsHeld (held (v.at a) s) (reg before s)) → ((j : ℕ) → IsHeld (v.lines a j) (measured (v.forms j) before)) →
+    ((s more : ℕ) (c : Arc) → IsAccessedIn v areas i a s more c → IsIn c (plus (reg before s) more)) → IsSolvedByAccess v areas i a b r → IsHeld (v.at b r) (reg after r)
+solved_register v areas i a b r before after kept holds each lines places x =
+    ⊎_elim
+    (λ (c : Covers (v.at b r) x.solution). in_covers x.solution (v.at b r) (reg after r) found c)
+    (λ (c : Covers (v.at b r) (meet_of x.solution (passed i a b (v.at a) r))). in_covers (meet_of x.solution (passed i a b (v.at a) r)) (v.at b r) (reg after r) (meet_of_in x.solution (passed i a b (v.at a) r) (reg after r) found holds) c)
+    x.covers
+  where
+    m : Measure
+    m = x.form
+
+    same : reg before m.register ≡ reg after r
+    same = ap (reg before) x.register ∙ sym (kept x.left)
+
+    small : reg before m.register < 2 ^ 32
+    small = subst (λ n. n < 2 ^ 32) (sym same) (word_of (passed i a b (v.at a) r) (reg after r) x.known holds)
+
+    line : IsHeld (v.lines a x.number) (measured m before)
+    line = subst (IsHeld (v.lines a x.number)) (sym (side_is m (v.forms x.number) before x.is_side)) (lines x.number)
+
+    other : IsHeld (sum_with (Some x.place) (opposite_of x.more)) (reg before m.other)
+    other = subst (IsHeld (sum_with (Some x.place) (opposite_of x.more))) (given_back (reg before m.other) x.more (word_of (held (v.at a) m.other) (reg before m.other) x.accessed.known (each m.other)))
+        (sum_with_in (Some x.place) (opposite_of x.more) (plus (reg before m.other) x.more) (places m.other x.more x.place x.accessed))
+
+    found : IsHeld x.solution (reg after r)
+    found = subst (IsHeld x.solution) same (solved_to m (v.lines a x.number) (sum_with (Some x.place) (opposite_of x.more)) x.solution before small line other x.solves)
 
 -- a word by a register that is so much more
 pub accessed_word : (place : Arc) (x : View) (k more further value : ℕ) → x.words k < 2 ^ 32 → IsNamed (Some (of_word k more)) x value → IsIn place (plus value further) →

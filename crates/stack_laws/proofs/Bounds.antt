@@ -21,6 +21,7 @@ use Rattle.bound_laws.specs.Turning.{unasked, with_bounds}
 use Rattle.bound_laws.specs.Values.{IsRegister, IsHeld, Values, AreBytes}
 use Rattle.bound_laws.proofs.Laws.{kept_too, not_broken, all_returns, kept_before, loaded_small}
 use Rattle.stack_laws.specs.Telling.{IsTelling}
+use Rattle.stack_laws.specs.Digits.{IsDwindling}
 use Rattle.stack_laws.specs.Areas.{IsLaidOut}
 use Rattle.stack_laws.specs.Stacks.{name_span, IsSpanned, Stacks, View, view_of, IsNamed, IsStackInvariant, AreTold}
 use Rattle.stack_laws.specs.Stacks.Name.{of_begin}
@@ -95,6 +96,7 @@ module _ (image : Image) (levels : ℕ) (code : Code) (v : Values) (w : Stacks) 
     begins = ana.begins;
     cells = ana.cells;
     told = λ j. subst (λ o. IsTelling o s.regs) (sym (ana.beginning.told j)) tt;
+    dwindling = λ j. subst (λ o. IsDwindling o s.regs) (sym (ana.beginning.dwindling j)) tt;
   }
 
 pub shown_kept : ShownBoundsAreKept

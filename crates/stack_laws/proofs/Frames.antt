@@ -17,8 +17,9 @@ use Rattle.bound_laws.specs.Turning.{Leads, Calls}
 use Rattle.bound_laws.specs.Values.{Arc, word, IsIn, IsHeld, Covers, sum_with, opposite_of, held, said, passed, line_of, IsImpossible, keeps_of, keeps_at, IsRegister, Values, Steps, IsLineCovered, AreBytes}
 use Rattle.bound_laws.proofs.Laws.{only_one, in_covers, in_word, sum_with_in, held_of, line_in}
 use Rattle.stack_laws.specs.Cells.{IsCellHeld}
-use Rattle.stack_laws.specs.Areas.{IsAccessedIn, IsCoveredByAccess}
+use Rattle.stack_laws.specs.Areas.{IsAccessedIn, IsCoveredByAccess, IsSolvedByAccess}
 use Rattle.stack_laws.specs.Telling.{IsTelling, IsToldTo}
+use Rattle.stack_laws.specs.Digits.{IsDwindling, IsLimitedBy}
 use Rattle.stack_laws.specs.Stacks.{IsCellLoaded, IsExactly, known_sum, known_sums, name_span, span_of, IsSpanned, IsSpannedOver, IsWordSpanned, IsSpanBack, IsWordSpanBack, Name, Stacks, View, view_of, word_address, IsNamed, name_of, more_of, name_arc, word_loaded, IsStoredFrom, IsLoadedTo, IsFar, IsMissed, IsDescending, IsSteady, IsNamedOver, IsWordCovered, IsWordNamed, ArePassed, AreEntered, IsRestored, IsSafe, IsNameSafe, IsRegisterBack, IsSumBack, IsNameBack, IsWordBack, IsWordNameBack, AreBack, IsReturned, IsStackInvariant, AreTold}
 use Rattle.stack_laws.specs.Stacks.Name.{of_begin, of_word}
 use Rattle.stack_laws.specs.Stacks.IsNamedOver.{unnamed as none_over, kept as kept_over, summed as summed_over, added as added_over, added_to as added_to_over, loaded as loaded_over, loaded_as as loaded_as_over, stored as stored_over}
@@ -39,8 +40,9 @@ use Rattle.stack_laws.proofs.Making.{line_made, subtracted}
 use Rattle.stack_laws.specs.Making.{IsLineMade, IsSubtracted}
 use Rattle.stack_laws.proofs.Stepping.{load_far, store_keeps}
 use Rattle.stack_laws.proofs.Cells.{cell_loaded}
-use Rattle.stack_laws.proofs.Areas.{accessed_register, accessed_word, span_by_interval}
+use Rattle.stack_laws.proofs.Areas.{accessed_register, accessed_word, solved_register, span_by_interval}
 use Rattle.stack_laws.proofs.Telling.{told_behind, told_to}
+use Rattle.stack_laws.proofs.Digits.{dwindling_behind, limited_by}
 
 words_small : (x y z u : ℕ) → x < 256 → y < 256 → z < 256 → u < 256 → x + y * 2 ^ 8 + z * 2 ^ 16 + u * 2 ^ 24 < 2 ^ 32
 words_small x y z u a b c d = omega arith
@@ -278,6 +280,7 @@ module _ (t : Text) (g : Graph) (v : Values) (w : Stacks) (inv : IsStackInvarian
       begins = begins;
       cells = cells;
       told = λ j. told_behind v (w.told a) a b i before after kept holds numbers results zero_before size_before zero_after size_after told.registers.each told.told (w.told b j) (p.told j);
+      dwindling = λ j. dwindling_behind v (w.dwindling a) a b i before after kept holds numbers results zero_before size_before zero_after size_after told.registers.each told.dwindling (w.dwindling b j) (p.dwindling j);
     }
       where
         names : (r : ℕ) → IsRegister r → IsNamed (w.name b r) then (reg after r)
@@ -291,15 +294,19 @@ module _ (t : Text) (g : Graph) (v : Values) (w : Stacks) (inv : IsStackInvarian
 
         each : (r : ℕ) → IsRegister r → IsHeld (v.at b r) (reg after r)
         each r is = ⊎_elim (register_in v inv.registers a b i before after kept holds adds so zero_before size_before zero_after size_after told.registers r is)
-            (λ (x : Covers (v.at b r) (name_arc v w b (w.name b r)) ⊎ IsSubtracted v i a b r ⊎ IsCellLoaded v w i a b r ⊎ IsToldTo v (w.told a) i a b r ⊎ IsCoveredByAccess v w.areas i a b r). ⊎_elim
+            (λ (x : Covers (v.at b r) (name_arc v w b (w.name b r)) ⊎ IsSubtracted v i a b r ⊎ IsCellLoaded v w i a b r ⊎ IsToldTo v (w.told a) i a b r ⊎ IsCoveredByAccess v w.areas i a b r ⊎ IsLimitedBy v (w.dwindling a) i a b r ⊎ IsSolvedByAccess v w.areas i a b r). ⊎_elim
             (λ (c : Covers (v.at b r) (name_arc v w b (w.name b r))). in_covers (name_arc v w b (w.name b r)) (v.at b r) (reg after r) (name_arc_in v w b (w.name b r) then (reg after r) begins words small_then (names r is)) c)
-            (λ (y : IsSubtracted v i a b r ⊎ IsCellLoaded v w i a b r ⊎ IsToldTo v (w.told a) i a b r ⊎ IsCoveredByAccess v w.areas i a b r). ⊎_elim
+            (λ (y : IsSubtracted v i a b r ⊎ IsCellLoaded v w i a b r ⊎ IsToldTo v (w.told a) i a b r ⊎ IsCoveredByAccess v w.areas i a b r ⊎ IsLimitedBy v (w.dwindling a) i a b r ⊎ IsSolvedByAccess v w.areas i a b r). ⊎_elim
             (λ (c : IsSubtracted v i a b r). subtracted v inv.registers a b i before after kept sums results zero_before size_before told.registers r is c)
-            (λ (z : IsCellLoaded v w i a b r ⊎ IsToldTo v (w.told a) i a b r ⊎ IsCoveredByAccess v w.areas i a b r). ⊎_elim
+            (λ (z : IsCellLoaded v w i a b r ⊎ IsToldTo v (w.told a) i a b r ⊎ IsCoveredByAccess v w.areas i a b r ⊎ IsLimitedBy v (w.dwindling a) i a b r ⊎ IsSolvedByAccess v w.areas i a b r). ⊎_elim
             (λ (c : IsCellLoaded v w i a b r). cell_loaded v w i a b r before after bytes held_before told.cells (λ op rs1 offset. reads op r rs1 offset is) c)
-            (λ (u : IsToldTo v (w.told a) i a b r ⊎ IsCoveredByAccess v w.areas i a b r). ⊎_elim
+            (λ (u : IsToldTo v (w.told a) i a b r ⊎ IsCoveredByAccess v w.areas i a b r ⊎ IsLimitedBy v (w.dwindling a) i a b r ⊎ IsSolvedByAccess v w.areas i a b r). ⊎_elim
             (λ (c : IsToldTo v (w.told a) i a b r). told_to v (w.told a) a b i before after kept holds numbers results zero_before size_before zero_after size_after told.registers.each told.told r is c)
-            (λ (c : IsCoveredByAccess v w.areas i a b r). accessed_register v w.areas i a b r before after (kept r) (held_before r) (accesses r) c) u) z) y) x) (p.registers r is)
+            (λ (q : IsCoveredByAccess v w.areas i a b r ⊎ IsLimitedBy v (w.dwindling a) i a b r ⊎ IsSolvedByAccess v w.areas i a b r). ⊎_elim
+            (λ (c : IsCoveredByAccess v w.areas i a b r). accessed_register v w.areas i a b r before after (kept r) (held_before r) (accesses r) c)
+            (λ (o : IsLimitedBy v (w.dwindling a) i a b r ⊎ IsSolvedByAccess v w.areas i a b r). ⊎_elim
+            (λ (c : IsLimitedBy v (w.dwindling a) i a b r). limited_by v (w.dwindling a) a b i before after kept holds numbers results zero_before size_before zero_after size_after told.registers.each told.dwindling r is c)
+            (λ (c : IsSolvedByAccess v w.areas i a b r). solved_register v w.areas i a b r before after (kept r) (holds r is) held_before told.registers.lines accesses c) o) q) u) z) y) x) (p.registers r is)
 
     -- over an edge
     pub step_frames : (calls : List ℕ) (xs : List View) → Leads g a b → Steps g a b → Frames a begun bytes calls xs → AreTold v w b then × Frames b begun later calls xs
@@ -325,6 +332,7 @@ module _ (t : Text) (g : Graph) (v : Values) (w : Stacks) (inv : IsStackInvarian
         begins = in_covers (v.at a 2) (w.begins (v.function b)) (reg after 2) (subst (IsHeld (v.at a 2)) (sym (kept 2 e.stack)) (told.registers.each 2 two_is)) e.begins;
         cells = cells;
         told = λ j. subst (λ o. IsTelling o after) (sym (e.beginning.told j)) tt;
+        dwindling = λ j. subst (λ o. IsDwindling o after) (sym (e.beginning.dwindling j)) tt;
       },
       (
         record {
@@ -461,6 +469,7 @@ module _ (t : Text) (g : Graph) (v : Values) (w : Stacks) (inv : IsStackInvarian
         begins = begins;
         cells = cells;
         told = λ j. subst (λ o. IsTelling o after) (sym (back.told j)) tt;
+        dwindling = λ j. subst (λ o. IsDwindling o after) (sym (back.dwindling j)) tt;
       },
       frames_along u b x.begun later calls xs leads over.1,
     )

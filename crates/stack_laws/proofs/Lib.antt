@@ -6,6 +6,7 @@ pub mod Stepping
 pub mod Cells
 pub mod Areas
 pub mod Telling
+pub mod Digits
 pub mod Frames
 pub mod Moving
 pub mod Runs

@@ -1,6 +1,7 @@
 pub mod Making
 pub mod Cells
 pub mod Telling
+pub mod Digits
 pub mod Areas
 pub mod Stacks
 pub mod Counting

@@ -18,8 +18,9 @@ use Rattle.bound_laws.specs.Turning.{Leads, Calls}
 use Rattle.bound_laws.specs.Values.{Arc, IsIn, ahead, strided, word, exactly, top_of, sum_of, sum_with, opposite_of, held, IsHeld, Covers, said, passed, line_of, IsImpossible, keeps_at, IsRegister, Values, Steps, IsCovered, IsLineCovered, AreIn}
 use Rattle.stack_laws.specs.Making.{IsLineMade, IsSubtracted}
 use Rattle.stack_laws.specs.Cells.{Cell, IsCellHeld, IsBeside, IsStoredInto, IsLoadedFrom}
-use Rattle.stack_laws.specs.Areas.{IsAccessedIn, IsCoveredByAccess}
+use Rattle.stack_laws.specs.Areas.{IsAccessedIn, IsCoveredByAccess, IsSolvedByAccess}
 use Rattle.stack_laws.specs.Telling.{Told, IsTelling, IsToldBehind, IsToldTo}
+use Rattle.stack_laws.specs.Digits.{Dwindling, IsDwindling, IsDwindlingBehind, IsLimitedBy}
 
 -- ---- where values come from
 
@@ -55,6 +56,8 @@ pub record Stacks : Type 0 where
   -- By address and a number, before the instruction there: what a register that is 0, or isn't, tells of another one. The numbers of different
   -- addresses have nothing to do with each other.
   pub told : ℕ → ℕ → Option Told
+  -- By address and a number, as those: a register that is divided, and another one that counts how often.
+  pub dwindling : ℕ → ℕ → Option Dwindling
   -- by number, intervals of addresses that hold all that may be loaded from or stored to
   pub areas : ℕ → Option Arc
 
@@ -258,11 +261,13 @@ pub record IsCellLoaded (v : Values) (w : Stacks) (i : Instr) (a b r : ℕ) : Ty
   pub covers : Covers (v.at b r) (Some cell.values)
 
 -- a register's interval at b: as in an invariant of intervals, by its name, by a line of the difference that the instruction writes, by a
--- cell that it loads, by what another register tells, or by where an access through it may be
+-- cell that it loads, by what another register tells, by where an access through it may be, by how often a number is divided that it counts, or
+-- by a line of it and of a register through which an access goes
 abbrev pub IsCoveredOver : Values → Stacks → Instr → ℕ → ℕ → ℕ → Type 0
 IsCoveredOver v w i a b r =
     IsCovered v i a b r ⊎ Covers (v.at b r) (name_arc v w b (w.name b r)) ⊎ IsSubtracted v i a b r ⊎ IsCellLoaded v w i a b r
-    ⊎ IsToldTo v (w.told a) i a b r ⊎ IsCoveredByAccess v w.areas i a b r
+    ⊎ IsToldTo v (w.told a) i a b r ⊎ IsCoveredByAccess v w.areas i a b r ⊎ IsLimitedBy v (w.dwindling a) i a b r
+    ⊎ IsSolvedByAccess v w.areas i a b r
 
 -- the register holds this number alone
 abbrev pub IsExactly : Values → ℕ → ℕ → Arc → Type 0
@@ -299,12 +304,11 @@ pub data IsWordNamed (v : Values) (w : Stacks) (i : Instr) (a b k : ℕ) : Type 
   kept : w.word_name b k ≡ w.word_name a k → IsMissed v w a i k → IsSteady v w a i (w.word_name a k) → IsWordNamed v w i a b k
   stored : (r : ℕ) → IsStoredFrom w a i k r → w.word_name b k ≡ name_of w a r → IsSteady v w a i (name_of w a r) → IsWordNamed v w i a b k
 
--- the register is a word at b, and its interval there, less what x2 had when the function began, where that is one number
+-- the register's interval at b, less what x2 had when the function began, where that is one number
 pub record IsSpannedByInterval (v : Values) (w : Stacks) (b r : ℕ) : Type 0 where
   pub begun : Arc
   pub begun_is : w.begins (v.function b) ≡ Some begun
   pub one : begun.more ≡ 0
-  pub known : is_some (v.at b r) ≡ true
   pub covers : Covers (w.span b r) (sum_with (v.at b r) (opposite_of begun.low))
 
 -- a register's span at b: the one it had, by its name, by a sum, by a word that is loaded, or by its interval
@@ -338,6 +342,7 @@ pub record ArePassed (v : Values) (w : Stacks) (i : Instr) (a b : ℕ) : Type 0 
   pub spans : (r : ℕ) → IsRegister r → IsSpannedOver v w i a b r
   pub word_spans : (k : ℕ) → IsWordSpanned v w i a b k
   pub told : (j : ℕ) → IsToldBehind v (w.told a) i a b (w.told b j)
+  pub dwindling : (j : ℕ) → IsDwindlingBehind v (w.dwindling a) i a b (w.dwindling b j)
 
 -- all are, or no state comes this way
 abbrev pub IsPassed : Values → Stacks → Instr → ℕ → ℕ → Type 0
@@ -345,7 +350,8 @@ IsPassed v w i a b = IsImpossible (said i a b) (v.at a) ⊎ ArePassed v w i a b
 
 -- ---- into a function
 
--- where a function begins, each register is what it was then, nothing is known of the words of its stack, and no register tells of others
+-- where a function begins, each register is what it was then, nothing is known of the words of its stack, and no register tells of others or
+-- counts what is divided
 pub record IsBeginning (w : Stacks) (a : ℕ) : Type 0 where
   pub names : (r : ℕ) → IsRegister r → (w.name a r ≡ None) ⊎ (w.name a r ≡ Some (of_begin r 0))
   pub words : (k : ℕ) → w.word a k ≡ None
@@ -353,6 +359,7 @@ pub record IsBeginning (w : Stacks) (a : ℕ) : Type 0 where
   pub spans : (r : ℕ) → IsRegister r → Covers (w.span a r) (name_span (w.name a r))
   pub word_spans : (k : ℕ) → w.word_span a k ≡ None
   pub told : (j : ℕ) → w.told a j ≡ None
+  pub dwindling : (j : ℕ) → w.dwindling a j ≡ None
 
 pub record AreEntered (v : Values) (w : Stacks) (i : Instr) (a b : ℕ) : Type 0 where
   pub live : v.live b ≡ true
@@ -423,6 +430,7 @@ pub record AreBack (t : Text) (v : Values) (w : Stacks) (u to b : ℕ) : Type 0 
   pub spans : (r : ℕ) → IsRegister r → IsSpanBack t v w u to b r
   pub word_spans : (k : ℕ) → IsWordSpanBack v w u to b k
   pub told : (j : ℕ) → w.told b j ≡ None
+  pub dwindling : (j : ℕ) → w.dwindling b j ≡ None
 
 -- at a return the register is left, its interval is one of the function's returns, and it is what it was when the function began, where it is restored
 pub record IsReturned (t : Text) (v : Values) (w : Stacks) (a r : ℕ) : Type 0 where
@@ -460,3 +468,4 @@ pub record AreTold (v : Values) (w : Stacks) (a : ℕ) (x : View) : Type 0 where
   pub begins : IsHeld (w.begins (v.function a)) (reg x.begun 2)
   pub cells : (c : ℕ) → IsCellHeld (w.cell c) x.bytes
   pub told : (j : ℕ) → IsTelling (w.told a j) x.regs
+  pub dwindling : (j : ℕ) → IsDwindling (w.dwindling a j) x.regs

@@ -12,10 +12,11 @@ use Rattle.wrapped_intervals.specs.Small.{row}
 use Rattle.value_checks.specs.declared.tables.Line.{Line}
 use Rattle.value_checks.specs.Tables.{beside, or_other, flag, form_in, line_in, line_rows, lines_at}
 use Rattle.stack_tables.specs.declared.tables.Told.{Told}
+use Rattle.stack_tables.specs.declared.tables.Dwindling.{Dwindling}
 use Rattle.stack_tables.specs.declared.tables.Name.{Name}
 use Rattle.stack_tables.specs.declared.tables.Word.{Word}
 use Rattle.stack_tables.specs.declared.claims.StackClaim.{StackClaim}
-use Rattle.stack_tables.specs.Tables.{IsStackClaim, IsUnknown, address, cell_view, claim_text, named, name_in, rows_view, arc_of, name_of_word, span_of_word, stacks_in, text_in, told_at, told_in, told_rows, values_in, words_at}
+use Rattle.stack_tables.specs.Tables.{IsStackClaim, IsUnknown, address, cell_view, claim_text, dwindling_at, dwindling_in, dwindling_rows, named, name_in, rows_view, arc_of, name_of_word, span_of_word, stacks_in, text_in, told_at, told_in, told_rows, values_in, words_at}
 use Rattle.value_checks.proofs.Laws.{beside_is}
 
 pub there : (c : StackClaim) (k : ℕ) → k < length c.graph.now.code.nodes → slice_get c.graph.now.code.nodes k ≡ Some (address c k)
@@ -124,6 +125,16 @@ told_rows_seen c is k lt = seen [] c is (told_rows c.stack.now.told.items) (told
 pub told_seen : (c : StackClaim) (a j : ℕ) (row : List Told) → row ≡ told_at c.graph.now.code c.stack.now a → told_in row j ≡ (stacks_in c).told a j
 unfolding stacks_in
 told_seen c a j row same = ap (λ (xs : List Told). told_in xs j) same
+
+dwindling_length : (rows : List (Vec Dwindling Global)) → length (dwindling_rows rows) ≡ length rows
+dwindling_length rows = length-map rows (λ (row : Vec Dwindling Global). row.items)
+
+pub dwindling_rows_seen : (c : StackClaim) → IsStackClaim c → (k : ℕ) → k < length c.graph.now.code.nodes → or_other [] (slice_get (dwindling_rows c.stack.now.dwindling.items) k) ≡ dwindling_at c.graph.now.code c.stack.now (address c k)
+dwindling_rows_seen c is k lt = seen [] c is (dwindling_rows c.stack.now.dwindling.items) (dwindling_length c.stack.now.dwindling.items ∙ is.stacks.dwindling) k lt
+
+pub dwindling_seen : (c : StackClaim) (a j : ℕ) (row : List Dwindling) → row ≡ dwindling_at c.graph.now.code c.stack.now a → dwindling_in row j ≡ (stacks_in c).dwindling a j
+unfolding stacks_in
+dwindling_seen c a j row same = ap (λ (xs : List Dwindling). dwindling_in xs j) same
 
 pub instr_seen : (c : StackClaim) (k at : ℕ) (found : Option Instr) → at ≡ address c k → IfSome found (λ i. text.instr_at (claim_text c) at ≡ Some i) → IfSome found (λ i. text.instr_at (text_in c) (address c k) ≡ Some i)
 unfolding text_in

@@ -1,6 +1,6 @@
 -- Scaffold: a table of stacks as what `stack_laws` calls stacks: by address what stands beside it in the list of nodes, by register what stands in the
 -- row, and by number of a word what stands in the row of words.
-use Rattle.std.specs.Prelude.{◌≡◌, ℕ, ◌+◌, ◌*◌, ◌^◌, ◌≤◌, ◌⊎◌, false, List, [], length, slice_get, slice_index, map, option_map, option_and_then, Option, Some, None, Ok, Vec}
+use Rattle.std.specs.Prelude.{◌≡◌, ℕ, ◌+◌, ◌*◌, ◌^◌, ◌<◌, ◌≤◌, ◌⊎◌, false, List, [], length, slice_get, slice_index, map, option_map, option_and_then, Option, Some, None, Ok, Vec}
 use Rattle.std.specs.List.{All}
 use Rattle.std.specs.declared.alloc.Global.{Global}
 use Rattle.scale_base.specs.declared.instruction.Instr.{Instr}
@@ -15,10 +15,12 @@ use Rattle.stack_laws.specs.Stacks as stacks
 use Rattle.stack_laws.specs.Stacks.{Stacks}
 use Rattle.stack_laws.specs.Stacks.Name.{of_begin, of_word}
 use Rattle.stack_laws.specs.Telling as telling
+use Rattle.stack_laws.specs.Digits as digits
 use Rattle.wrapped_intervals.specs.Small.{row, IsKept, IsKeptOr, IsFoundOr}
 use Rattle.value_checks.specs.Tables.{beside, or_other, flag, values_of, AreSized}
 use Rattle.stack_tables.specs.declared.tables.Cell.{Cell}
 use Rattle.stack_tables.specs.declared.tables.Told.{Told}
+use Rattle.stack_tables.specs.declared.tables.Dwindling.{Dwindling}
 use Rattle.stack_tables.specs.declared.tables.Name.{Name}
 use Rattle.stack_tables.specs.declared.tables.Name.TheVariants.{OfBegin, OfWord}
 use Rattle.stack_tables.specs.declared.tables.Word.{Word}
@@ -72,6 +74,19 @@ told_in row j = option_map told_view (slice_get row j)
 abbrev pub told_at : Code → StackTable → ℕ → List Told
 told_at code stack a = beside [] code.nodes (told_rows stack.told.items) a
 
+abbrev pub dwindling_view : Dwindling → digits.Dwindling
+dwindling_view y = record { value = y.value; count = y.count; bits = y.bits; below = y.below }
+
+abbrev pub dwindling_rows : List (Vec Dwindling Global) → List (List Dwindling)
+dwindling_rows rows = map (λ (row : Vec Dwindling Global). row.items) rows
+
+-- what is divided in a row, by number
+abbrev pub dwindling_in : List Dwindling → ℕ → Option digits.Dwindling
+dwindling_in row j = option_map dwindling_view (slice_get row j)
+
+abbrev pub dwindling_at : Code → StackTable → ℕ → List Dwindling
+dwindling_at code stack a = beside [] code.nodes (dwindling_rows stack.dwindling.items) a
+
 abbrev pub stacks_of : Code → StackTable → Stacks
 stacks_of code stack = record {
   name = λ a r. named (name_in (beside [] code.nodes stack.names.items a) r);
@@ -86,6 +101,7 @@ stacks_of code stack = record {
   spared = λ k a. beside false code.nodes stack.spared.items a;
   cell = λ j. option_map cell_view (slice_get stack.cells.items j);
   told = λ a j. told_in (told_at code stack a) j;
+  dwindling = λ a j. dwindling_in (dwindling_at code stack a) j;
   areas = λ k. slice_get stack.areas.items k;
 }
 
@@ -119,6 +135,21 @@ pub record IsRowOfTold (row : List Told) : Type 0 where
 abbrev pub IsToldRow : Vec Told Global → Type 0
 IsToldRow row = IsRowOfTold row.items
 
+-- what is divided is of registers from x1 on, by fewer than 64 bits
+pub record IsDwindlingKept (y : Dwindling) : Type 0 where
+  pub value : IsRegister y.value
+  pub count : IsRegister y.count
+  pub bits : y.bits < 64
+  pub below : y.below < 64
+
+-- and a row has at most so many
+pub record IsRowOfDwindling (row : List Dwindling) : Type 0 where
+  pub few : length row ≤ 4
+  pub kept : All IsDwindlingKept row
+
+abbrev pub IsDwindlingRow : Vec Dwindling Global → Type 0
+IsDwindlingRow row = IsRowOfDwindling row.items
+
 -- a table with a row for each node and each function, all of them short enough to be kept
 pub record AreStacksSized (code : Code) (stack : StackTable) : Type 0 where
   pub names : length stack.names.items ≡ length code.nodes
@@ -135,6 +166,8 @@ pub record AreStacksSized (code : Code) (stack : StackTable) : Type 0 where
   pub cells_kept : All HasKeptValues stack.cells.items
   pub told : length stack.told.items ≡ length code.nodes
   pub told_kept : All IsToldRow stack.told.items
+  pub dwindling : length stack.dwindling.items ≡ length code.nodes
+  pub dwindling_kept : All IsDwindlingRow stack.dwindling.items
   pub areas_few : length stack.areas.items ≤ 64
   pub areas_kept : All IsKept stack.areas.items
 

@@ -23,8 +23,8 @@ pub use predicates::{
     is_live_at, is_missed_by, is_restored_by, is_safe_at, line_at, name_at, stored_word, word_at,
 };
 pub use reading::{
-    address, arcs, areas, begins, cells, exits, form, instruction, is_live, is_restored, is_spared,
-    line, lines, name, name_of, span, span_of, told, word, word_count,
+    address, arcs, areas, begins, cells, dwindling, exits, form, instruction, is_live, is_restored,
+    is_spared, line, lines, name, name_of, span, span_of, told, word, word_count,
 };
 pub use safe::{descending, is_given_back, is_name_safe, is_safe};
 pub use sizes::is_stack_sized;
@@ -32,4 +32,7 @@ pub use stores::{
     MOST_WORDS, arc_at, held_at, is_far, is_missed, is_sparing, is_steady, loaded_to, name_arc,
     stored_by, stored_from, word_number,
 };
-pub use tables::{Cell, MOST_AREAS, MOST_CELLS, MOST_TOLD, Name, StackTable, Told, Word};
+pub use tables::{
+    Cell, Dwindling, MOST_AREAS, MOST_CELLS, MOST_DWINDLING, MOST_TOLD, Name, StackTable, Told,
+    Word,
+};

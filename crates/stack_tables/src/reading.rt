@@ -9,14 +9,14 @@ ghost use Rattle.code_text.specs.Text.{text_of};
 ghost use Rattle.stack_laws.specs.Stacks as stacks;
 ghost use Rattle.wrapped_intervals.specs.Small.{IsKept, IsKeptOr, measure_view, row};
 ghost use Rattle.value_checks.specs.Tables.{line_in, IsForm, IsLineKept};
-ghost use Rattle.stack_tables.specs.Tables.{HasKeptValues, IsStackClaim, IsToldKept, IsUnknown, IsWordKept, address, cell_view, named, stacks_in, text_in, told_in, values_in};
+ghost use Rattle.stack_tables.specs.Tables.{HasKeptValues, IsDwindlingKept, IsStackClaim, IsToldKept, IsUnknown, IsWordKept, address, cell_view, dwindling_in, named, stacks_in, text_in, told_in, values_in};
 
 use crate::claims::StackClaim;
 use crate::rows::{
-    arcs_row, begins_row, exits_row, form_row, line_in_row, lines_row, live_row, name_in_row,
-    names_row, restored_row, span_in_row, spared_row, told_row, word_in, words_row,
+    arcs_row, begins_row, dwindling_row, exits_row, form_row, line_in_row, lines_row, live_row,
+    name_in_row, names_row, restored_row, span_in_row, spared_row, told_row, word_in, words_row,
 };
-use crate::tables::{Cell, Name, Told, Word};
+use crate::tables::{Cell, Dwindling, Name, Told, Word};
 use code_text::instr_at;
 use elf_image::ImageView;
 use scale_base::Instr;
@@ -250,6 +250,17 @@ pub fn told<'a>(claim: &StackClaim<'a>, k: usize) -> &'a [Told]
     ensures kept { All IsToldKept result.now }
 {
     told_row(claim.stack, k)
+}
+
+/// What is divided at node k while other registers count how often.
+pub fn dwindling<'a>(claim: &StackClaim<'a>, k: usize) -> &'a [Dwindling]
+    requires claim { IsStackClaim claim.now }
+    requires node { k < length claim.now.graph.now.code.nodes }
+    ensures dwindling { (j : ℕ) → dwindling_in result.now j ≡ (stacks_in claim.now).dwindling (address claim.now k) j }
+    ensures few { length result.now ≤ 4 }
+    ensures kept { All IsDwindlingKept result.now }
+{
+    dwindling_row(claim.stack, k)
 }
 
 /// How far word `number` is above what x2 had when its function began, modulo 2^32.

@@ -5,9 +5,9 @@ ghost use Rattle.std.specs.List.{All};
 ghost use Rattle.wrapped_intervals.specs.Small.{IsKeptOr, measure_view, row};
 ghost use Rattle.value_checks.specs.Tables.{flag, form_in, line_in, line_rows, or_other, IsForm, IsLineKept};
 ghost use Rattle.value_checks.specs.Tables as lines;
-ghost use Rattle.stack_tables.specs.Tables.{IsRowOf, IsRowOfTold, IsRowOfWords, IsToldRow, IsWordKept, arc_of, name_in, name_of_word, named, rows_view, span_of_word, told_rows};
+ghost use Rattle.stack_tables.specs.Tables.{IsDwindlingRow, IsRowOf, IsRowOfDwindling, IsRowOfTold, IsRowOfWords, IsToldRow, IsWordKept, arc_of, dwindling_rows, name_in, name_of_word, named, rows_view, span_of_word, told_rows};
 
-use crate::tables::{Name, StackTable, Told, Word};
+use crate::tables::{Dwindling, Name, StackTable, Told, Word};
 use value_checks::{Line, ValueTable};
 use wrapped_intervals::{Arc, Measure};
 
@@ -133,6 +133,16 @@ pub fn told_row(stack: &StackTable, k: usize) -> &[Told]
     ensures told { IsRowOfTold result.now }
 {
     &stack.told[k]
+}
+
+/// What is divided at node k, and how often.
+pub fn dwindling_row(stack: &StackTable, k: usize) -> &[Dwindling]
+    requires row { k < length stack.now.dwindling.items }
+    requires kept { All IsDwindlingRow stack.now.dwindling.items }
+    ensures row { result.now ≡ or_other [] (slice_get (dwindling_rows stack.now.dwindling.items) k) }
+    ensures dwindling { IsRowOfDwindling result.now }
+{
+    &stack.dwindling[k]
 }
 
 /// The form of a number: behind the last one, one of which nothing is known.

@@ -3,10 +3,12 @@
 ghost use Rattle.std.specs.Prelude.{◌≡◌, true};
 ghost use Rattle.std.specs.List.{All};
 ghost use Rattle.wrapped_intervals.specs.Small.{IsKept, IsKeptOr};
-ghost use Rattle.stack_tables.specs.Tables.{AreStacksSized, HasKeptValues, IsRowOf, IsRowOfTold, IsRowOfWords, IsToldKept, IsToldRow, IsWordKept};
+ghost use Rattle.stack_tables.specs.Tables.{AreStacksSized, HasKeptValues, IsDwindlingKept, IsDwindlingRow, IsRowOf, IsRowOfDwindling, IsRowOfTold, IsRowOfWords, IsToldKept, IsToldRow, IsWordKept};
 
 use crate::stores::MOST_WORDS;
-use crate::tables::{Cell, MOST_AREAS, MOST_CELLS, MOST_TOLD, StackTable, Told, Word};
+use crate::tables::{
+    Cell, Dwindling, MOST_AREAS, MOST_CELLS, MOST_DWINDLING, MOST_TOLD, StackTable, Told, Word,
+};
 use flow_graph::CodeGraph;
 use value_checks::{are_arcs_kept, are_rows_kept};
 use wrapped_intervals::{Arc, is_kept};
@@ -115,6 +117,49 @@ fn are_rows_of_told(rows: &[Vec<Told>]) -> bool
     true
 }
 
+// Whether what is divided is of registers from x1 on, and the bits fewer than 64.
+fn is_dwindling_kept(pair: Dwindling) -> bool
+    ensures { result ≡ true → IsDwindlingKept pair }
+{
+    0 < pair.value
+        && pair.value < 32
+        && 0 < pair.count
+        && pair.count < 32
+        && pair.bits < 64
+        && pair.below < 64
+}
+
+// The same of all at a node.
+fn are_dwindling_kept(row: &[Dwindling]) -> bool
+    ensures { result ≡ true → All IsDwindlingKept row.now }
+{
+    for pair in row {
+        if !is_dwindling_kept(*pair) {
+            return false;
+        }
+    }
+    true
+}
+
+// The same, of no more than a node may have.
+fn is_row_of_dwindling(row: &[Dwindling]) -> bool
+    ensures { result ≡ true → IsRowOfDwindling row.now }
+{
+    row.len() <= MOST_DWINDLING && are_dwindling_kept(row)
+}
+
+// The same of each node.
+fn are_rows_of_dwindling(rows: &[Vec<Dwindling>]) -> bool
+    ensures { result ≡ true → All IsDwindlingRow rows.now }
+{
+    for row in rows {
+        if !is_row_of_dwindling(row) {
+            return false;
+        }
+    }
+    true
+}
+
 // Whether all intervals of a table are kept.
 fn are_all_kept(stack: &StackTable) -> bool
     ensures spans { result ≡ true → All (All IsKeptOr) stack.now.spans.items }
@@ -123,6 +168,7 @@ fn are_all_kept(stack: &StackTable) -> bool
     ensures place { result ≡ true → IsKeptOr stack.now.place }
     ensures cells { result ≡ true → All HasKeptValues stack.now.cells.items }
     ensures told { result ≡ true → All IsToldRow stack.now.told.items }
+    ensures dwindling { result ≡ true → All IsDwindlingRow stack.now.dwindling.items }
     ensures areas { result ≡ true → All IsKept stack.now.areas.items }
 {
     are_rows_kept(&stack.spans)
@@ -131,11 +177,12 @@ fn are_all_kept(stack: &StackTable) -> bool
         && is_kept(stack.place)
         && are_cells_kept(&stack.cells)
         && are_rows_of_told(&stack.told)
+        && are_rows_of_dwindling(&stack.dwindling)
         && are_areas_kept(&stack.areas)
 }
 
 /// Whether a table has a row for each node and each function of a graph, with intervals that are kept, rows of at most so many words
-/// and of at most so much that is told, and at most so many numbers in memory and intervals of addresses.
+/// and of at most so much that is told and so many that are divided, and at most so many numbers in memory and intervals of addresses.
 pub fn is_stack_sized(graph: &CodeGraph, stack: &StackTable) -> bool
     ensures { result ≡ true → AreStacksSized graph.now.code stack.now }
 {
@@ -149,6 +196,7 @@ pub fn is_stack_sized(graph: &CodeGraph, stack: &StackTable) -> bool
         && stack.restored.len() == functions
         && stack.cells.len() <= MOST_CELLS
         && stack.told.len() == nodes
+        && stack.dwindling.len() == nodes
         && stack.areas.len() <= MOST_AREAS
         && are_all_kept(stack)
 }

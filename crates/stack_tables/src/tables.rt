@@ -41,6 +41,18 @@ pub struct Told {
 /// How many of them a node has at most.
 pub const MOST_TOLD: usize = 8;
 
+/// What register `value` holds, times 2 to the power of `bits` times what register `count` holds, is below 2 to the power of `below`.
+#[derive(Clone, Copy, PartialEq, Eq)]
+pub struct Dwindling {
+    pub value: u8,
+    pub count: u8,
+    pub bits: u8,
+    pub below: u8,
+}
+
+/// How many of them a node has at most.
+pub const MOST_DWINDLING: usize = 4;
+
 /// How many intervals of addresses a table has at most.
 pub const MOST_AREAS: usize = 64;
 
@@ -48,8 +60,8 @@ pub const MOST_AREAS: usize = 64;
 /// and number, the words of the function's stack, of which nothing is known behind the last; by function, what x2 has when it begins, and
 /// which registers are at its returns what they were then; where the words of functions that wait for a call may be; and by node, whether
 /// nothing is stored to those words from here on up to the function's return, in what is called neither. Wherever the run is, numbers in
-/// memory that are always in an interval. By node, what registers tell of others. And intervals of addresses that hold all that may be
-/// loaded from or stored to.
+/// memory that are always in an interval. By node, what registers tell of others, and which are divided while others count how often. And
+/// intervals of addresses that hold all that may be loaded from or stored to.
 #[derive(Drop)]
 pub struct StackTable {
     pub names: Vec<[Option<Name>; 32]>,
@@ -61,5 +73,6 @@ pub struct StackTable {
     pub spared: Vec<bool>,
     pub cells: Vec<Cell>,
     pub told: Vec<Vec<Told>>,
+    pub dwindling: Vec<Vec<Dwindling>>,
     pub areas: Vec<Arc>,
 }

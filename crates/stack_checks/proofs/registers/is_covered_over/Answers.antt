@@ -16,5 +16,11 @@ returns-then-is_cell_loaded c so = inr (inr (inr (inl (c.if-is_cell_loaded.ensur
 pub returns-then-is_told_to : goal.returns-then-is_told_to
 returns-then-is_told_to c so = inr (inr (inr (inr (inl (c.if-is_told_to.ensures refl)))))
 
+pub returns-then-is_covered_by_access : goal.returns-then-is_covered_by_access
+returns-then-is_covered_by_access c so = inr (inr (inr (inr (inr (inl (c.if-is_covered_by_access.ensures refl))))))
+
+pub returns-then-is_limited_by : goal.returns-then-is_limited_by
+returns-then-is_limited_by c so = inr (inr (inr (inr (inr (inr (inl (c.if-is_limited_by.ensures refl)))))))
+
 pub returns : goal.returns
-returns c so = inr (inr (inr (inr (inr (c.is_covered_by_access.ensures so)))))
+returns c so = inr (inr (inr (inr (inr (inr (inr (c.is_solved_by_access.ensures so)))))))

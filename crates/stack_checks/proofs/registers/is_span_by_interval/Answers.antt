@@ -8,6 +8,5 @@ returns-then-more-eq0 c so = record {
   begun = c.in-Some.begun;
   begun_is = sym c.begins.ensures.begins ∙ c.in-Some.is;
   one = sym c.more.ensures ∙ c.if-more-eq0.true;
-  known = c.is_span_of_interval.ensures.known so;
-  covers = subst (λ (n : ℕ). Covers ((stacks_along c.args.way.now).span (to c.args.way.now) c.args.r) (sum_with ((values_along c.args.way.now).at (to c.args.way.now) c.args.r) (opposite_of n))) c.low.ensures (c.is_span_of_interval.ensures.covers so);
+  covers = subst (λ (n : ℕ). Covers ((stacks_along c.args.way.now).span (to c.args.way.now) c.args.r) (sum_with ((values_along c.args.way.now).at (to c.args.way.now) c.args.r) (opposite_of n))) c.low.ensures (c.is_span_of_interval.ensures so);
 }
