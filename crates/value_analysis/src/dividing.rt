@@ -160,7 +160,13 @@ fn moved_by(i: Instr) -> Option<(u8, u8)> {
 
 // Whether an instruction takes the high word of a product of signed numbers.
 fn is_signed_product(i: Instr) -> bool {
-    matches!(i, Instr::Reg { op: RegOp::Mulh, .. })
+    matches!(
+        i,
+        Instr::Reg {
+            op: RegOp::Mulh,
+            ..
+        }
+    )
 }
 
 // The register that an instruction raises by a little.

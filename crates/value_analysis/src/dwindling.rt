@@ -177,12 +177,7 @@ impl Dwindled<'_> {
                 rs1,
                 imm,
             } if rs1 == value && self.is_low(rs1) => Some((rd, u64::try_from(imm).ok()?)),
-            Instr::Reg {
-                op,
-                rd,
-                rs1,
-                rs2,
-            } => Some((rd, self.taken_off(op, rs1, rs2, value)?)),
+            Instr::Reg { op, rd, rs1, rs2 } => Some((rd, self.taken_off(op, rs1, rs2, value)?)),
             _ => None,
         }
     }
@@ -190,7 +185,7 @@ impl Dwindled<'_> {
     // How many bits the high word of a product with a register takes off.
     fn bits_of_factor(&self, r: u8) -> Option<u64> {
         let top = greatest_of(arc_of(self.row(), r))?;
-        Some(32u64.saturating_sub(bits_of(top.saturating_sub(1))))
+        Some(32u64.saturating_sub(bits_of(top)))
     }
 
     // How many bits a quotient or a product takes off.

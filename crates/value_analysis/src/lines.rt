@@ -3,8 +3,8 @@
 ghost use Rattle.std.specs.Prelude.{◌≡◌, ◌<◌, length, true};
 
 use crate::apart::raised;
-use crate::areas::access_of;
 use crate::arcs::{WORDS, kept, shorter};
+use crate::areas::access_of;
 use crate::befores::{before, turned};
 use crate::forms::{Forms, MOST_WANTED, difference, is_same_sum};
 use crate::passing::Step;
@@ -288,13 +288,7 @@ impl Tracing<'_> {
     }
 
     // The interval of a register that is left by a sum of it with one through which the instruction loads or stores.
-    fn solved_by_access(
-        &self,
-        m: Measure,
-        line: &Line,
-        place: &Option<Arc>,
-        to: &mut State,
-    ) {
+    fn solved_by_access(&self, m: Measure, line: &Line, place: &Option<Arc>, to: &mut State) {
         let k = usize::from(m.register);
         let passed = self.passed(m.register);
         if passed.is_none() || k == 0 || k >= 32 || !keeps(m.register, self.step.instr) {

@@ -171,15 +171,13 @@ impl Moving<'_> {
         }
     }
 
-    // The registers that a node compares with anything, where it may end the loop, or by which it loads or stores.
+    // The registers that a node compares with anything, where it may end the loop.
     fn tested(&self, k: usize) -> [u8; 2] {
-        let Some(node) = self.program.node(k) else {
-            return [0; 2];
-        };
-        match node.instr {
-            Instr::Branch { rs1, rs2, .. } if self.is_turning(&node) => [rs1, rs2],
-            Instr::Load { rs1, .. } => [rs1, 0],
-            Instr::Store { rs1, .. } => [rs1, 0],
+        match self.program.node(k) {
+            Some(node) if self.is_turning(&node) => match node.instr {
+                Instr::Branch { rs1, rs2, .. } => [rs1, rs2],
+                _ => [0; 2],
+            },
             _ => [0; 2],
         }
     }

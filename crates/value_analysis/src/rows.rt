@@ -104,10 +104,7 @@ pub fn solved_arc(m: Measure, line: &Option<Arc>, other: &Option<Arc>) -> Option
 pub fn lessened_arc(m: Measure, line: &Option<Arc>, other: &Option<Arc>) -> Option<Arc> {
     if is_kept(*line) && is_kept(*other) {
         let many = scaled(u64::from(m.other_factor), *other);
-        kept(sum_with(
-            difference_of(many, *line),
-            u64::from(m.shift),
-        ))
+        kept(sum_with(difference_of(many, *line), u64::from(m.shift)))
     } else {
         None
     }
