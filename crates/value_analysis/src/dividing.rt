@@ -14,6 +14,9 @@ use wrapped_intervals::keeps;
 /// How often the registers that are used later are looked for at all nodes.
 const MOST_ROUNDS: usize = 32;
 
+/// How many nodes before a division are looked at for its divisor.
+const MOST_BEFORE: usize = 256;
+
 /// How many bits a division takes off where its divisor isn't seen: those of one by 10.
 const BITS: u8 = 3;
 
@@ -77,44 +80,37 @@ pub fn bits_below(n: u64) -> u8 {
     bits
 }
 
-// The least positive number that an instruction of a loop's function puts into a register, in bits.
-fn constant_bits(program: &Program, f: usize, r: u8) -> u8 {
-    let mut least = None;
-    let mut next = program.last_member_of(f);
-    for _ in 0..program.nodes.len() {
-        let Some(k) = next else {
+// How many bits the number has that a register is given last before a node, as the nodes of its function stand, but for the highest.
+fn constant_bits(program: &Program, k: usize, r: u8) -> u8 {
+    let mut next = program.member_beside(k);
+    for _ in 0..MOST_BEFORE {
+        let Some(node) = next.and_then(|before| program.node(before)) else {
             break;
         };
-        if let Some(imm) = program.node(k).and_then(|node| constant_of(node.instr, r)) {
-            least = match least {
-                Some(other) if other <= imm => Some(other),
-                _ => Some(imm),
-            };
+        if !keeps(r, node.instr) {
+            return constant_of(node.instr).map_or(BITS, bits_below);
         }
-        next = program.member_beside(k);
+        next = next.and_then(|before| program.member_beside(before));
     }
-    match least {
-        Some(imm) => bits_below(imm),
-        None => BITS,
-    }
+    BITS
 }
 
 // The positive number that an instruction puts into a register.
-fn constant_of(i: Instr, r: u8) -> Option<u64> {
+fn constant_of(i: Instr) -> Option<u64> {
     match i {
         Instr::Imm {
             op: ImmOp::Addi,
-            rd,
+            rd: _,
             rs1: 0,
             imm,
-        } if rd == r && imm > 0 => u64::try_from(imm).ok(),
+        } if imm > 0 => u64::try_from(imm).ok(),
         _ => None,
     }
 }
 
 // What a node divides or shifts. By a product with a number the high word is a quotient, too, whose bits another instruction takes.
-fn quotient_of(program: &Program, node: &Node) -> Option<Quotient> {
-    match node.instr {
+fn quotient_of(program: &Program, k: usize, i: Instr) -> Option<Quotient> {
+    match i {
         Instr::Imm {
             op: ImmOp::Srli | ImmOp::Srai,
             rd,
@@ -133,7 +129,7 @@ fn quotient_of(program: &Program, node: &Node) -> Option<Quotient> {
         } => Some(Quotient {
             to: rd,
             from: rs1,
-            bits: constant_bits(program, node.function, rs2),
+            bits: constant_bits(program, k, rs2),
         }),
         _ => None,
     }
@@ -211,13 +207,14 @@ impl Dividing {
         }
     }
 
-    fn note(&mut self, program: &Program, node: &Node) {
+    // Takes what a node does.
+    fn note(&mut self, program: &Program, k: usize, node: &Node) {
         for r in 1..32u8 {
             if !keeps(r, node.instr) {
                 add(&mut self.written, r);
             }
         }
-        if let Some(quotient) = quotient_of(program, node) {
+        if let Some(quotient) = quotient_of(program, k, node.instr) {
             add(&mut self.values, quotient.from);
             add(&mut self.values, quotient.to);
             self.note_bits(quotient.bits);
@@ -342,7 +339,7 @@ fn dividing_of(program: &Program, body: &[usize]) -> Dividing {
     let mut dividing = Dividing::none();
     for k in body {
         if let Some(node) = program.node(*k) {
-            dividing.note(program, &node);
+            dividing.note(program, *k, &node);
         }
     }
     dividing

@@ -32,9 +32,7 @@ const MOST_NODES: usize = 32_768;
 // Tables that say nothing.
 fn blank_tables(alloc: Global, nodes: usize, functions: usize) -> Result<Tables, NoMemory> {
     let mut tables = Tables::none(alloc);
-    for facts in facts_of(alloc, nodes, unknown())? {
-        tables.add_node(facts)?;
-    }
+    tables.add_nodes(facts_of(alloc, nodes, unknown())?)?;
     for _ in 0..functions {
         tables.add_function(unknown(), None, [false; 32])?;
     }
@@ -85,9 +83,7 @@ fn tables_of(alloc: Global, growth: Growth<'_>) -> Result<Tables, NoMemory> {
     let mut nodes = growth.facts;
     let shifts = shifts_of(alloc, forms, &nodes)?;
     shift_lines(forms, &shifts, &mut nodes);
-    for facts in nodes {
-        tables.add_node(facts)?;
-    }
+    tables.add_nodes(nodes)?;
     tables.values.forms = measures_of(alloc, forms, &shifts)?;
     tables.stack.areas = growth.areas;
     tables.values.live = growth.live;
