@@ -266,101 +266,41 @@ pub fn stretched_to(old: Arc, new: Arc) -> Option<Arc> {
     stretched(new, before?, more?)
 }
 
-// The lesser of both, where there are any.
-fn nearer(one: Option<u64>, other: Option<u64>) -> Option<u64> {
-    match other {
-        Some(n) => lesser(one, n),
-        None => one,
+// How far below its first number an interval that has grown begins.
+fn before_of(old: Arc, new: Arc, whose: Whose, ends: &Ends<'_>) -> Option<u64> {
+    if new.low() == old.low() {
+        Some(0)
+    } else {
+        nearest_below(new, whose, ends)
     }
 }
 
-// Whether an interval has grown at its end.
-fn has_risen(old: Arc, new: Arc) -> bool {
-    ahead(new.low(), old.low()).saturating_add(old.more()) < new.more()
-}
-
-// How far below its first number an interval that is to grow there begins: at a threshold of the register, or at what it may not go beyond.
-fn own_before(new: Arc, register: u8, ends: &Ends<'_>) -> Option<u64> {
-    nearer(
-        nearest_below(new, Whose::Of(register), ends),
-        nearest_below(new, Whose::Below(register), ends),
-    )
-}
-
-// And how far behind its first number it ends.
-fn own_more(new: Arc, register: u8, ends: &Ends<'_>) -> Option<u64> {
-    nearer(
-        nearest_above(new, Whose::Of(register), ends),
-        nearest_above(new, Whose::Behind(register), ends),
-    )
-}
-
-// Whether a number is at one that a register may not go beyond, or a little beyond it: what a step goes past it.
-fn is_passed(number: u64, whose: Whose, thresholds: &[Threshold]) -> bool {
-    for threshold in thresholds {
-        let word = u64::from(threshold.word);
-        let far = match whose {
-            Whose::Below(_) => ahead(number, word.saturating_add(APART)),
-            _ => ahead(word, number.saturating_add(APART)),
-        };
-        if threshold.is_for(whose) && far < NEAR {
-            return true;
-        }
+// How far behind its first number it ends.
+fn more_of(old: Arc, new: Arc, whose: Whose, ends: &Ends<'_>) -> Option<u64> {
+    if ahead(new.low(), old.low()).saturating_add(old.more()) >= new.more() {
+        Some(new.more())
+    } else {
+        nearest_above(new, whose, ends)
     }
-    false
 }
 
-// How far below its first number an interval that is to grow there begins: at a threshold of the register, where it does if one is near, or at another's.
-fn any_before(new: Arc, register: u8, ends: &Ends<'_>) -> Option<u64> {
-    let below = nearest_below(new, Whose::Below(register), ends);
-    let own = nearest_below(new, Whose::Of(register), ends);
-    if own.is_some() {
-        return nearer(own, below);
-    }
-    if is_near(new.low(), register, ends.thresholds)
-        || is_passed(new.low(), Whose::Below(register), ends.thresholds)
-    {
+// How far below its first number an interval that is to grow begins: at a threshold of the register, where it does if one is near, or at another's.
+fn any_before(old: Arc, new: Arc, register: u8, ends: &Ends<'_>) -> Option<u64> {
+    let own = before_of(old, new, Whose::Of(register), ends);
+    if own.is_none() && is_near(new.low(), register, ends.thresholds) {
         return Some(0);
     }
-    nearer(below, nearest_below(new, Whose::OfAny, ends))
+    own.or(before_of(old, new, Whose::OfAny, ends))
 }
 
 // And how far behind it ends.
-fn any_more(new: Arc, register: u8, ends: &Ends<'_>) -> Option<u64> {
-    let behind = nearest_above(new, Whose::Behind(register), ends);
-    let own = nearest_above(new, Whose::Of(register), ends);
-    if own.is_some() {
-        return nearer(own, behind);
-    }
+fn any_more(old: Arc, new: Arc, register: u8, ends: &Ends<'_>) -> Option<u64> {
+    let own = more_of(old, new, Whose::Of(register), ends);
     let last = new.low().saturating_add(new.more());
-    if is_near(last, register, ends.thresholds)
-        || is_passed(last, Whose::Behind(register), ends.thresholds)
-    {
+    if own.is_none() && is_near(last, register, ends.thresholds) {
         return Some(new.more());
     }
-    nearer(behind, nearest_above(new, Whose::OfAny, ends))
-}
-
-// How far below its first number an interval that has grown so often begins.
-fn before_of(old: Arc, new: Arc, register: u8, count: u8, ends: &Ends<'_>) -> Option<u64> {
-    if new.low() == old.low() {
-        Some(0)
-    } else if count < OWN_FROM {
-        any_before(new, register, ends)
-    } else {
-        own_before(new, register, ends)
-    }
-}
-
-// And how far behind its first number it ends.
-fn more_of(old: Arc, new: Arc, register: u8, count: u8, ends: &Ends<'_>) -> Option<u64> {
-    if !has_risen(old, new) {
-        Some(new.more())
-    } else if count < OWN_FROM {
-        any_more(new, register, ends)
-    } else {
-        own_more(new, register, ends)
-    }
+    own.or(more_of(old, new, Whose::OfAny, ends))
 }
 
 /// An interval that has grown so often is stretched to the next threshold on each side on which it has: to one of the register, else by nothing where one is near
@@ -372,14 +312,24 @@ pub fn widened(
     count: u8,
     thresholds: &[Threshold],
 ) -> Option<Arc> {
+    let own = Whose::Of(register);
     let least = if (APART_FROM..OWN_FROM).contains(&count) {
         APART
     } else {
         0
     };
     let ends = Ends { thresholds, least };
-    let before = before_of(old, new, register, count, &ends);
-    let more = more_of(old, new, register, count, &ends);
+    let (before, more) = if count < OWN_FROM {
+        (
+            any_before(old, new, register, &ends),
+            any_more(old, new, register, &ends),
+        )
+    } else {
+        (
+            before_of(old, new, own, &ends),
+            more_of(old, new, own, &ends),
+        )
+    };
     match (before, more) {
         (Some(before), Some(more)) => stretched(new, before, more),
         _ => word(),

@@ -16,15 +16,12 @@ const LEAST: u64 = 0x8000_0000;
 
 const GREATEST: u64 = 0x7FFF_FFFF;
 
-/// A number with which a register is compared, and whether it was the one number of the other register then; or the address below an area or behind it,
-/// where the register may go no further, less what is added to it.
+/// A number with which a register is compared, and whether it was the one number of the other register then.
 #[derive(Clone, Copy, PartialEq, Eq, PartialOrd, Ord, Drop)]
 pub struct Threshold {
     register: u8,
     pub word: u32,
     exact: bool,
-    below: bool,
-    behind: bool,
 }
 
 /// A number beyond which a register may not go: up, or else down.
@@ -34,24 +31,19 @@ pub struct Limit {
     pub is_upper: bool,
 }
 
-/// Whose thresholds are looked at: those with which a register is compared, the one numbers that any is compared with, or where a register may go no further
-/// down, or up.
+/// Whose thresholds are looked at: those of a register, or the one numbers that any is compared with.
 #[derive(Clone, Copy)]
 pub enum Whose {
     Of(u8),
     OfAny,
-    Below(u8),
-    Behind(u8),
 }
 
 impl Threshold {
     /// Whether it is one of those.
     pub fn is_for(&self, whose: Whose) -> bool {
         match whose {
-            Whose::Of(register) => self.register == register && !self.below && !self.behind,
+            Whose::Of(register) => self.register == register,
             Whose::OfAny => self.exact,
-            Whose::Below(register) => self.register == register && self.below,
-            Whose::Behind(register) => self.register == register && self.behind,
         }
     }
 }
@@ -79,8 +71,6 @@ fn add_about(
                 register,
                 word,
                 exact,
-                below: false,
-                behind: false,
             },
         )?;
     }
@@ -114,8 +104,6 @@ pub fn add_limit(
             register,
             word: limit.word,
             exact: false,
-            below: !limit.is_upper,
-            behind: limit.is_upper,
         },
     )
 }
