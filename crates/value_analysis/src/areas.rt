@@ -7,6 +7,7 @@ use crate::arcs::{WORDS, ahead};
 use crate::rows::within;
 use crate::stores::arc_of;
 use crate::tables::Row;
+use crate::thresholds::Limit;
 use elf_image::ImageView;
 use scale_base::{Instr, NoMemory};
 use stack_tables::MOST_AREAS;
@@ -23,13 +24,6 @@ const STACK_MORE: u64 = 0x3_FFFF;
 pub struct Access {
     pub register: u8,
     pub offset: u32,
-}
-
-/// The addresses below an area and behind it, less what is added to a register.
-#[derive(Clone, Copy)]
-pub struct Limits {
-    pub below: u32,
-    pub behind: u32,
 }
 
 /// The register by which an instruction loads or stores.
@@ -107,22 +101,27 @@ impl Access {
     pub fn held(&self, areas: &[Arc], row: &Row) -> Option<Arc> {
         let arc = self.addresses(row)?;
         let area = area_met(areas, arc)?;
-        let met = within(&Some(area), &Some(arc));
+        let met = within(&Some(arc), &Some(area));
         raised(met, self.offset.wrapping_neg())
     }
 
-    /// Up to where its register may go, where it isn't one number.
-    pub fn limits(&self, areas: &[Arc], row: &Row) -> Option<Limits> {
+    // A limit of the addresses, as one of the register.
+    fn limit(&self, at: u64, is_upper: bool) -> Limit {
+        let word = (at % WORDS) as u32;
+        Limit { word, is_upper }.raised(self.offset.wrapping_neg())
+    }
+
+    /// Where its register may go no further down, and no further up, where it isn't one number: where an area begins, and behind its end.
+    pub fn limits(&self, areas: &[Arc], row: &Row) -> Option<[Limit; 2]> {
         let arc = self.addresses(row)?;
         if arc.more() == 0 {
             return None;
         }
         let area = area_met(areas, arc)?;
-        let from = (area.low() % WORDS) as u32;
-        let behind = (area.low().saturating_add(area.more()).saturating_add(1) % WORDS) as u32;
-        Some(Limits {
-            below: from.wrapping_sub(self.offset),
-            behind: behind.wrapping_sub(self.offset),
-        })
+        let last = area.low().saturating_add(area.more());
+        Some([
+            self.limit(area.low(), false),
+            self.limit(last.saturating_add(1), true),
+        ])
     }
 }

@@ -109,6 +109,19 @@ impl Behind {
         }
     }
 
+    // Notes a load by one of both registers, over which it writes, at the node of a place.
+    fn note_overwriting(&mut self, i: Instr, place: usize) {
+        if let Some(access) = access_of(i) {
+            let is_left = keeps(access.register, i);
+            if !is_left && access.register == self.copy.from && !self.copy.is_sum {
+                self.tested_from = place.saturating_add(1);
+            }
+            if !is_left && access.register == self.copy.to {
+                self.tested_to = place.saturating_add(1);
+            }
+        }
+    }
+
     // Whether an instruction makes something else of one of both registers, or moves it on where ways have met.
     fn is_end(&self, i: Instr) -> bool {
         if keeps(self.copy.from, i) && keeps(self.copy.to, i) {
@@ -131,6 +144,7 @@ impl Behind {
             return Ok(());
         };
         self.note_test(node.instr, place);
+        self.note_overwriting(node.instr, place);
         self.joined = self.joined || is_join(program, k);
         if self.is_end(node.instr) {
             return Ok(());

@@ -2,6 +2,7 @@
 
 use crate::cells::{Cells, Place};
 use crate::copies::{add_copies, add_differences};
+use crate::dividing::Divided;
 use crate::forms::Forms;
 use crate::growing::Growth;
 use crate::holding::narrow_numbers;
@@ -31,9 +32,7 @@ const MOST_NODES: usize = 32_768;
 // Tables that say nothing.
 fn blank_tables(alloc: Global, nodes: usize, functions: usize) -> Result<Tables, NoMemory> {
     let mut tables = Tables::none(alloc);
-    for facts in facts_of(alloc, nodes, unknown())? {
-        tables.add_node(facts)?;
-    }
+    tables.add_nodes(facts_of(alloc, nodes, unknown())?)?;
     for _ in 0..functions {
         tables.add_function(unknown(), None, [false; 32])?;
     }
@@ -84,9 +83,7 @@ fn tables_of(alloc: Global, growth: Growth<'_>) -> Result<Tables, NoMemory> {
     let mut nodes = growth.facts;
     let shifts = shifts_of(alloc, forms, &nodes)?;
     shift_lines(forms, &shifts, &mut nodes);
-    for facts in nodes {
-        tables.add_node(facts)?;
-    }
+    tables.add_nodes(nodes)?;
     tables.values.forms = measures_of(alloc, forms, &shifts)?;
     tables.stack.areas = growth.areas;
     tables.values.live = growth.live;
@@ -138,6 +135,7 @@ fn forms_of(alloc: Global, program: &Program, tree: &LoopTree) -> Result<Forms, 
     add_loops(alloc, &mut forms, program, tree)?;
     add_copies(alloc, &mut forms, program)?;
     add_differences(&mut forms, program)?;
+    forms.divided = Divided::of(alloc, program, tree)?;
     Ok(forms)
 }
 

@@ -2,10 +2,11 @@
 
 ghost use Rattle.std.specs.Prelude.{◌<◌};
 
-use crate::arcs::only;
 use crate::befores::before;
+use crate::dividing::Divided;
 use crate::passing::is_restorable;
 use crate::program::Program;
+use crate::thresholds::Limit;
 use crate::ways::{Way, WayKind};
 use scale_base::NoMemory;
 use std::alloc::Global;
@@ -18,6 +19,9 @@ pub const MOST_WANTED: usize = 16;
 /// How many forms a family has at most.
 const MOST_FORMS: usize = 6;
 
+/// The longest interval of a line that says up to where a register may go.
+const LONGEST: u32 = 65_536;
+
 /// A form: a sum of two registers, and the number of its family: the forms of which one is made of another by instructions.
 #[derive(Clone, Copy)]
 pub struct Form {
@@ -26,12 +30,13 @@ pub struct Form {
 }
 
 /// The forms by number, the first of each family with the node at whose loop it is to begin at 0, if there is one, and by node the numbers of those that are
-/// looked for before it.
+/// looked for before it; and the registers that loops divide while they count.
 #[derive(Drop)]
 pub struct Forms {
     pub forms: Vec<Form>,
     pub families: Vec<Family>,
     pub wanted: Vec<Vec<usize>>,
+    pub divided: Divided,
     open: Vec<Want>,
 }
 
@@ -97,6 +102,7 @@ impl Forms {
             forms: Vec::new(alloc),
             families: Vec::new(alloc),
             wanted: no_wants(alloc, nodes)?,
+            divided: Divided::none(alloc),
             open: Vec::new(alloc),
         })
     }
@@ -106,16 +112,21 @@ impl Forms {
         self.forms.get(j).copied()
     }
 
-    /// The register that a line of a difference with another one is of, and the number up to which it may go, where the other one may go up to a limit and
-    /// the line is one number.
-    pub fn solved(&self, line: &Line, other: u8, limit: u32) -> Option<(u8, u32)> {
+    /// The register that a line of a difference with another one is of, and beyond which number it may not go, where the other one has a limit and the line
+    /// says something.
+    pub fn solved(&self, line: &Line, other: u8, limit: Limit) -> Option<(u8, Limit)> {
         let m = self.form(line.form)?.measure;
-        let apart = only(Some(line.arc))?;
-        if is_same_sum(m, difference(m.register, other)) {
-            Some((m.register, limit.wrapping_add(apart).wrapping_sub(m.shift)))
-        } else {
-            None
+        let low = u32::try_from(line.arc.low()).ok()?;
+        let more = u32::try_from(line.arc.more()).ok()?;
+        if !is_same_sum(m, difference(m.register, other)) || more > LONGEST {
+            return None;
         }
+        let apart = if limit.is_upper {
+            low.wrapping_add(more)
+        } else {
+            low
+        };
+        Some((m.register, limit.raised(apart.wrapping_sub(m.shift))))
     }
 
     /// Those that are looked for before a node.

@@ -7,6 +7,7 @@ use crate::arcs::holds;
 use crate::areas::{access_of, areas_of};
 use crate::calls::{CallSite, Callee, come_back, enter};
 use crate::cells::Cells;
+use crate::dwindling::Dwindled;
 use crate::forms::Forms;
 use crate::holding::{look_at_memory, put_loaded};
 use crate::joining::{Change, Counts, Growing, Pace, grow_arc, grow_plain_row, word_key};
@@ -20,7 +21,7 @@ use crate::states::{Facts, State, WORD_COUNT, facts_of};
 use crate::stores::arc_of;
 use crate::tables::Row;
 use crate::telling::{Telling, comparison_of, put_told, untold_nodes};
-use crate::thresholds::{Threshold, add_ends, add_limit};
+use crate::thresholds::{Limit, Threshold, add_ends, add_limit};
 use crate::ways::{Way, WayKind};
 use elf_image::ImageView;
 use scale_base::{Instr, NoMemory};
@@ -249,6 +250,7 @@ impl<'a> Growth<'a> {
         self.tell(step, from, way, to);
         put_loaded(&self.cells, step.instr, &from.row, &mut to.row);
         self.trace(step, from, way, to);
+        self.dwindle(step, from, way, to);
         true
     }
 
@@ -273,7 +275,19 @@ impl<'a> Growth<'a> {
             from,
         };
         tracing.put_lines(way.to, to);
-        tracing.put_solved(to);
+        tracing.put_solved(&self.areas, to);
+    }
+
+    // Puts what flows over a step of registers that are divided.
+    fn dwindle(&self, step: Step, from: &Facts, way: &Way, to: &mut State) {
+        if !self.forms.divided.is_none() {
+            let dwindled = Dwindled {
+                divided: &self.forms.divided,
+                step,
+                from,
+            };
+            dwindled.put(way, to);
+        }
     }
 
     fn flow_by_call(&self, node: &Node, way: &Way, to: &mut State) -> bool {
@@ -552,13 +566,13 @@ impl<'a> Growth<'a> {
         self.note_truth(&node, k)
     }
 
-    // Takes a number up to which a register may go as a threshold, of the register and of the word from which its value comes.
+    // Takes a number beyond which a register may not go as a threshold, of the register and of the word from which its value comes.
     fn note_limit(
         &mut self,
         f: usize,
         register: u8,
         name: Option<Name>,
-        limit: u32,
+        limit: Limit,
     ) -> Result<(), NoMemory> {
         if f >= self.thresholds.len() {
             return Ok(());
@@ -567,14 +581,15 @@ impl<'a> Growth<'a> {
         add_limit(thresholds, register, limit)?;
         match name {
             Some(Name::OfWord(k, more)) => {
-                add_limit(thresholds, word_key(k as usize), limit.wrapping_sub(more))
+                let key = word_key(k as usize);
+                add_limit(thresholds, key, limit.raised(more.wrapping_neg()))
             }
             _ => Ok(()),
         }
     }
 
-    // Takes what a line of a register and another one, which may go up to a number, says of the register as a threshold.
-    fn note_solved(&mut self, k: usize, f: usize, other: u8, limit: u32) -> Result<(), NoMemory> {
+    // Takes what a line of a register and another one, which has a limit, says of the register as a threshold.
+    fn note_solved(&mut self, k: usize, f: usize, other: u8, limit: Limit) -> Result<(), NoMemory> {
         let Some(facts) = self.facts.get(k) else {
             return Ok(());
         };
@@ -583,8 +598,8 @@ impl<'a> Growth<'a> {
         }
         let thresholds = &mut self.thresholds[f];
         for line in &facts.lines {
-            if let Some((r, word)) = self.forms.solved(line, other, limit) {
-                add_limit(thresholds, r, word)?;
+            if let Some((r, limit)) = self.forms.solved(line, other, limit) {
+                add_limit(thresholds, r, limit)?;
             }
         }
         Ok(())
@@ -603,7 +618,7 @@ impl<'a> Growth<'a> {
         let Some(limits) = access.limits(&self.areas, &facts.row) else {
             return Ok(());
         };
-        for limit in [limits.below, limits.behind] {
+        for limit in limits {
             self.note_limit(node.function, register, name, limit)?;
             self.note_solved(k, node.function, register, limit)?;
         }

@@ -3,6 +3,7 @@
 ghost use Rattle.std.specs.Prelude.{◌<◌};
 
 use crate::arcs::{holds, joined, kept, one_sided, shorter, stretched_to, widened};
+use crate::dwindling::{grow_pairs, put_pairs};
 use crate::lines::{Flowing, Lines};
 use crate::names::{Names, name_span};
 use crate::states::{Facts, State, UNKNOWN_WORD, WORD_COUNT, name_arc, word_at};
@@ -619,6 +620,7 @@ impl Facts {
         put_row(&mut self.row, known);
         put_spans(&mut self.spans, &state.spans, &self.names);
         put_lines(&mut self.lines, &state.lines)?;
+        put_pairs(&mut self.dwindling, &state.pairs)?;
         put_told(&mut self.told, &state.told)
     }
 
@@ -669,8 +671,9 @@ impl Facts {
         let row = self.grow_row(state, growing, counts);
         let spans = self.grow_spans(state, growing.pace, counts);
         let lines = grow_lines(&mut self.lines, &state.lines, growing.pace, counts);
+        let pairs = grow_pairs(&mut self.dwindling, &state.pairs);
         Ok(Change {
-            grown: dropped || added || told || words || row || spans || lines,
+            grown: dropped || added || told || words || row || spans || lines || pairs,
             dropped: dropped || added,
         })
     }

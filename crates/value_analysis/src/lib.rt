@@ -11,6 +11,8 @@ mod befores;
 mod calls;
 mod cells;
 mod copies;
+mod dividing;
+mod dwindling;
 mod finding;
 mod forms;
 mod growing;

@@ -4,16 +4,18 @@ ghost use Rattle.std.specs.Prelude.{◌≡◌, ◌<◌, length, true};
 
 use crate::apart::raised;
 use crate::arcs::{WORDS, kept, shorter};
+use crate::areas::access_of;
 use crate::befores::{before, turned};
 use crate::forms::{Forms, MOST_WANTED, difference, is_same_sum};
 use crate::passing::Step;
 use crate::rows::{
-    compared_line, is_different, line_of_row, passed_word, solved_arc, unknown, within,
+    compared_line, is_different, lessened_arc, line_of_row, passed_word, solved_arc, unknown,
+    within,
 };
 use crate::states::{Facts, State};
 use scale_base::{Instr, RegOp};
 use value_checks::Line;
-use wrapped_intervals::{Arc, Measure, effect, said_by};
+use wrapped_intervals::{Arc, Measure, effect, keeps, said_by};
 
 /// The longest interval of a register by a line that says anything.
 const LONGEST: u64 = 0x4000_0000;
@@ -274,16 +276,60 @@ impl Tracing<'_> {
         }
     }
 
-    /// Puts what lines say of registers.
-    pub fn put_solved(&self, to: &mut State) {
+    // What a sum says of its first register, by its interval and where its other register may be.
+    fn solution(&self, m: Measure, line: &Line, place: &Option<Arc>) -> Option<Arc> {
+        if m.factor == 1 {
+            solved_arc(m, &Some(line.arc), place)
+        } else if m.factor == u32::MAX {
+            lessened_arc(m, &Some(line.arc), place)
+        } else {
+            None
+        }
+    }
+
+    // The interval of a register that is left by a sum of it with one through which the instruction loads or stores.
+    fn solved_by_access(&self, m: Measure, line: &Line, place: &Option<Arc>, to: &mut State) {
+        let k = usize::from(m.register);
+        let passed = self.passed(m.register);
+        if passed.is_none() || k == 0 || k >= 32 || !keeps(m.register, self.step.instr) {
+            return;
+        }
+        if let Some(arc) = self.solution(m, line, place) {
+            if arc.more() < LONGEST {
+                to.solve(k, Some(arc), within(&Some(arc), &passed));
+            }
+        }
+    }
+
+    // Puts what sums say of registers by where an access may be.
+    fn put_accessed(&self, areas: &[Arc], to: &mut State) {
+        let Some(access) = access_of(self.step.instr) else {
+            return;
+        };
+        let place = access.held(areas, &self.from.row);
+        if place.is_none() {
+            return;
+        }
+        for line in &self.from.lines {
+            if let Some(form) = self.forms.form(line.form) {
+                for m in [form.measure, turned(form.measure)] {
+                    if m.other == access.register {
+                        self.solved_by_access(m, line, &place, to);
+                    }
+                }
+            }
+        }
+    }
+
+    /// Puts what lines say of registers, where loads and stores may be in some areas.
+    pub fn put_solved(&self, areas: &[Arc], to: &mut State) {
         self.put_subtracted(to);
+        self.put_accessed(areas, to);
         for line in &self.from.lines {
             if let Some((r, arc)) = self.solved_by(line) {
                 let place = usize::from(r);
-                if place < 32 {
-                    let met = within(&Some(arc), &to.row[place]);
-                    to.solve(place, Some(arc), met);
-                }
+                let met = within(&Some(arc), &self.passed(r));
+                to.solve(place, Some(arc), met);
             }
         }
     }

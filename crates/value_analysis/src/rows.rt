@@ -8,8 +8,8 @@ use crate::arcs::{holds, joined, kept};
 use crate::tables::Row;
 use scale_base::Instr;
 use wrapped_intervals::{
-    Arc, Measure, Said, compared, exactly, is_difference, is_impossible, is_kept, line_of, meet_of,
-    passed, said_by, solved,
+    Arc, Measure, Said, compared, difference_of, exactly, is_difference, is_impossible, is_kept,
+    line_of, meet_of, passed, said_by, scaled, solved, sum_with,
 };
 
 /// The stack pointer at the start of a run.
@@ -95,6 +95,16 @@ pub fn line_of_row(m: Measure, row: &Row) -> Option<Arc> {
 pub fn solved_arc(m: Measure, line: &Option<Arc>, other: &Option<Arc>) -> Option<Arc> {
     if is_kept(*line) && is_kept(*other) {
         kept(solved(m, *line, *other))
+    } else {
+        None
+    }
+}
+
+/// The same of a register that is in the measure with the factor -1.
+pub fn lessened_arc(m: Measure, line: &Option<Arc>, other: &Option<Arc>) -> Option<Arc> {
+    if is_kept(*line) && is_kept(*other) {
+        let many = scaled(u64::from(m.other_factor), *other);
+        kept(sum_with(difference_of(many, *line), u64::from(m.shift)))
     } else {
         None
     }

@@ -4,13 +4,14 @@ ghost use Rattle.std.specs.Prelude.{◌≡◌, ◌<◌};
 
 use crate::apart::raised;
 use crate::arcs::shorter;
+use crate::dwindling::Pairs;
 use crate::lines::Lines;
 use crate::names::Names;
 use crate::rows::{copy_of, unknown, zeros};
 use crate::tables::Row;
 use crate::telling::Sentences;
 use scale_base::NoMemory;
-use stack_tables::{Name, Told, Word};
+use stack_tables::{Dwindling, Name, Told, Word};
 use std::alloc::Global;
 use value_checks::Line;
 use wrapped_intervals::{Arc, word};
@@ -38,6 +39,8 @@ pub struct State {
     pub met: Row,
     /// What registers tell of others.
     pub told: Sentences,
+    /// Registers that are divided while others count how often.
+    pub pairs: Pairs,
     words: [Word; 64],
     count: usize,
 }
@@ -53,6 +56,7 @@ impl State {
             solved: unknown(),
             met: unknown(),
             told: Sentences::none(),
+            pairs: Pairs::none(),
             words: [UNKNOWN_WORD; 64],
             count: 0,
         }
@@ -63,10 +67,11 @@ impl State {
         self.count = 0;
     }
 
-    /// Forgets all sums, and what registers tell, with what they say.
+    /// Forgets all sums, what registers tell and which are divided, with what they say.
     pub fn forget_lines(&mut self) {
         self.lines.clear();
         self.told.clear();
+        self.pairs.clear();
         self.forget_solved();
     }
 
@@ -127,6 +132,7 @@ pub struct Facts {
     pub words: Vec<Word>,
     pub lines: Vec<Line>,
     pub told: Vec<Told>,
+    pub dwindling: Vec<Dwindling>,
 }
 
 impl Facts {
@@ -138,6 +144,7 @@ impl Facts {
         self.words.clear();
         self.lines.clear();
         self.told.clear();
+        self.dwindling.clear();
     }
 
     /// A word.
@@ -157,6 +164,7 @@ pub fn facts_of(alloc: Global, count: usize, row: Row) -> Result<Vec<Facts>, NoM
             words: Vec::new(alloc),
             lines: Vec::new(alloc),
             told: Vec::new(alloc),
+            dwindling: Vec::new(alloc),
         })?;
     }
     Ok(facts)

@@ -7,6 +7,9 @@ use std::alloc::Global;
 use value_checks::ValueTable;
 use wrapped_intervals::Arc;
 
+/// How many nodes there are between those at which memory is given back.
+const BLOCK: usize = 4096;
+
 /// Intervals of the registers, by register.
 pub type Row = [Option<Arc>; 32];
 
@@ -38,13 +41,14 @@ impl Tables {
                 spared: Vec::new(alloc),
                 cells: Vec::new(alloc),
                 told: Vec::new(alloc),
+                dwindling: Vec::new(alloc),
                 areas: Vec::new(alloc),
             },
         }
     }
 
-    /// Adds what is known at the next node.
-    pub fn add_node(&mut self, facts: Facts) -> Result<(), NoMemory> {
+    // Adds what is known at the next node.
+    fn add_node(&mut self, facts: Facts) -> Result<(), NoMemory> {
         let Facts {
             row,
             names,
@@ -52,6 +56,7 @@ impl Tables {
             words,
             lines,
             told,
+            dwindling,
         } = facts;
         self.values.rows.push(row)?;
         self.values.lines.push(lines)?;
@@ -59,7 +64,35 @@ impl Tables {
         self.stack.spans.push(spans)?;
         self.stack.words.push(words)?;
         self.stack.told.push(told)?;
+        self.stack.dwindling.push(dwindling)?;
         Ok(())
+    }
+
+    /// Adds what is known at nodes, the first ones where nothing is known yet, and gives the memory of that back on the way.
+    pub fn add_nodes(&mut self, nodes: Vec<Facts>) -> Result<(), NoMemory> {
+        let mut nodes = nodes;
+        for _ in 0..nodes.len() {
+            let Some(facts) = nodes.pop() else {
+                break;
+            };
+            self.add_node(facts)?;
+            if nodes.len() % BLOCK == 0 {
+                nodes.shrink_to_fit();
+            }
+        }
+        self.turn_round();
+        Ok(())
+    }
+
+    // Puts the nodes the other way round: the last ones were added first.
+    fn turn_round(&mut self) {
+        self.values.rows.reverse();
+        self.values.lines.reverse();
+        self.stack.names.reverse();
+        self.stack.spans.reverse();
+        self.stack.words.reverse();
+        self.stack.told.reverse();
+        self.stack.dwindling.reverse();
     }
 
     /// Adds what is known of the next function: at its returns, of x2 when it begins, and which registers it gives back.

@@ -24,6 +24,13 @@ pub struct Threshold {
     exact: bool,
 }
 
+/// A number beyond which a register may not go: up, or else down.
+#[derive(Clone, Copy)]
+pub struct Limit {
+    pub word: u32,
+    pub is_upper: bool,
+}
+
 /// Whose thresholds are looked at: those of a register, or the one numbers that any is compared with.
 #[derive(Clone, Copy)]
 pub enum Whose {
@@ -75,13 +82,27 @@ fn word_of(n: u64) -> u32 {
     (n % WORDS) as u32
 }
 
-/// Adds a number up to which a register may go.
-pub fn add_limit(thresholds: &mut Vec<Threshold>, register: u8, word: u32) -> Result<(), NoMemory> {
+impl Limit {
+    /// The same of a register that is so much more.
+    pub fn raised(self, n: u32) -> Limit {
+        Limit {
+            word: self.word.wrapping_add(n),
+            is_upper: self.is_upper,
+        }
+    }
+}
+
+/// Adds a number beyond which a register may not go.
+pub fn add_limit(
+    thresholds: &mut Vec<Threshold>,
+    register: u8,
+    limit: Limit,
+) -> Result<(), NoMemory> {
     add_threshold(
         thresholds,
         Threshold {
             register,
-            word,
+            word: limit.word,
             exact: false,
         },
     )
