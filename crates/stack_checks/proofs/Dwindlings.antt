@@ -1,11 +1,11 @@
 -- What is to show of numbers that are divided, case by case.
-use Rattle.std.proofs.Common.{◌≡◌, ◌<◌, ◌≤◌, ◌+◌, ◌-◌, ◌*◌, ◌/◌, ◌^◌, get_or, ℕ, List, length, Option, Some, None, arith, sym, ap, ◌∙◌, subst}
+use Rattle.std.proofs.Common.{◌≡◌, ◌<◌, ◌≤◌, ◌+◌, ◌-◌, ◌*◌, ◌^◌, get_or, ℕ, List, length, Option, Some, None, arith, sym, ap, ◌∙◌, subst}
 use Rattle.std.specs.List.{All}
 use Rattle.std.specs.Prelude.{slice_get, option_map, is_some, IfSome}
 use Rattle.std.proofs.lemmas.List.{get_or_default}
 use Rattle.std.proofs.lemmas.Nat.{pow-add}
 use Rattle.std.proofs.lemmas.Option.{slice_get-get_or}
-use Rattle.std.proofs.Math.Nat.{lt-mul-div-succ, mul-le-mul_right}
+use Rattle.std.proofs.Math.Nat.{mul-le-mul_right}
 use Rattle.scale_base.specs.declared.instruction.Instr.{Instr}
 use Rattle.bound_laws.specs.Values.{Arc, Values, top_of}
 use Rattle.stack_laws.specs.Digits as digits
@@ -32,10 +32,6 @@ short_product top bits below few =
     let all : bits + (32 - bits) ≡ 32 = omega (arith, few) in
     let whole : 2 ^ bits * 2 ^ (32 - bits) ≡ 2 ^ 32 = sym (pow-add 2 bits (32 - bits)) ∙ ap (λ (n : ℕ). 2 ^ n) all in
     subst (λ (n : ℕ). top * 2 ^ (32 - bits) ≤ n) whole product
-
--- the greatest count, by what is left for it
-pub most_enough : (below bits each rest : ℕ) → 0 < each → below ≤ bits + (rest + 1) → below ≤ bits + each * (rest / each + 1)
-most_enough below bits each rest some room = let more : rest < each * (rest / each + 1) = lt-mul-div-succ rest some in omega (arith, more, room)
 
 -- a number and a count by their intervals
 pub known_so : (x : Way) (y : Dwindling) (value count : Arc) (bits t m : ℕ) → passed_along x y.value ≡ Some value → passed_along x y.count ≡ Some count → t ≡ top_of (Some value) → m ≡ top_of (Some count) → t < 2 ^ bits → bits + y.bits * m ≤ y.below → IsDwindlingByAlong x y
