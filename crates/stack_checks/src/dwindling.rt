@@ -1,6 +1,6 @@
 //! Numbers that are divided over an edge that is no call, and what follows for the registers that count how often.
 
-ghost use Rattle.std.specs.Prelude.{◌≡◌, ◌+◌, ◌*◌, ◌^◌, ◌<◌, ◌≤◌, ◌×◌, ℕ, length, is_some, IfSome, Some, None, true};
+ghost use Rattle.std.specs.Prelude.{◌≡◌, ◌+◌, ◌*◌, ◌^◌, ◌<◌, ◌≤◌, ℕ, length, is_some, IfSome, Some, None, true};
 ghost use Rattle.std.specs.List.{All};
 ghost use Rattle.scale_base.specs.declared.instruction.Instr.TheVariants.{Imm, Reg};
 ghost use Rattle.scale_base.specs.Arith.{unsigned};
@@ -105,6 +105,13 @@ fn shift(n: i32) -> Option<u32>
     }
 }
 
+// Whether a number is 0.
+fn is_nothing(n: i32) -> bool
+    ensures { result ≡ true → unsigned n ≡ 0 }
+{
+    n == 0
+}
+
 // How many bits y's number behind an operation with a number is shorter than z's before it.
 fn lost_with(way: &Way<'_>, op: ImmOp, n: i32, z: &Dwindling, y: &Dwindling) -> Option<u32>
     requires way { IsWay way.now }
@@ -112,7 +119,7 @@ fn lost_with(way: &Way<'_>, op: ImmOp, n: i32, z: &Dwindling, y: &Dwindling) -> 
     ensures { IfSome result (λ lost. IsLessAlong way.now z.now y.now lost) }
 {
     match op {
-        ImmOp::Addi => { if n == 0 { Some(0) } else { None } }
+        ImmOp::Addi => { if is_nothing(n) { Some(0) } else { None } }
         ImmOp::Srli => shift(n),
         ImmOp::Srai => { if is_low(way, z.value) { shift(n) } else { None } }
         _ => None,
@@ -208,20 +215,27 @@ fn lost_by(way: &Way<'_>, z: &Dwindling, y: &Dwindling) -> Option<u32>
 
 // ---- what it is counted by
 
-// How much greater y's count is where the instruction writes it.
+// How much greater an operation of z's count and a number makes y's.
+fn more_with(way: &Way<'_>, op: ImmOp, n: i32, z: &Dwindling, y: &Dwindling) -> Option<u32>
+    requires way { IsWay way.now }
+    requires instruction { way.now.instr ≡ Imm op y.now.count z.now.count n }
+    ensures { IfSome result (λ more. IsCountedAlong way.now z.now y.now more) }
+{
+    match op {
+        ImmOp::Addi => Some(n.cast_unsigned()),
+        _ => None,
+    }
+}
+
+// How much greater it is where the instruction writes it.
 fn more_written(way: &Way<'_>, z: &Dwindling, y: &Dwindling) -> Option<u32>
     requires { IsWay way.now }
     ensures { IfSome result (λ more. IsCountedAlong way.now z.now y.now more) }
 {
     match way.instr {
-        Instr::Imm {
-            op: ImmOp::Addi,
-            rd,
-            rs1,
-            imm,
-        } => {
+        Instr::Imm { op, rd, rs1, imm } => {
             if rd == y.count && rs1 == z.count {
-                Some(imm.cast_unsigned())
+                more_with(way, op, imm, z, y)
             } else {
                 None
             }
@@ -286,15 +300,29 @@ fn is_room(y: &Dwindling, bits: u32, count: u64) -> bool
     u64::from(bits) + u64::from(y.bits) * count <= u64::from(y.below)
 }
 
-// Whether the number and the count are so by their intervals.
+// Whether the number and the count are so by their intervals, which are these.
+fn is_so_by(way: &Way<'_>, y: &Dwindling, value: Arc, count: Arc) -> bool
+    requires value { passed_along way.now y.now.value ≡ Some value }
+    requires count { passed_along way.now y.now.count ≡ Some count }
+    requires value_found { IsFoundOr (Some value) }
+    requires count_found { IsFoundOr (Some count) }
+    ensures { result ≡ true → IsDwindlingByAlong way.now y.now }
+{
+    let most = top_of(Some(count));
+    let bits = bits_of(top_of(Some(value)));
+    is_room(y, bits, most)
+}
+
+// The same, where they are known.
 fn is_so_anyway(way: &Way<'_>, y: &Dwindling) -> bool
     requires way { IsWay way.now }
     requires pair { IsDwindlingKept y.now }
     ensures { result ≡ true → IsDwindlingByAlong way.now y.now }
 {
-    let value = passed_on(way, y.value);
-    let count = passed_on(way, y.count);
-    value.is_some() && count.is_some() && is_room(y, bits_of(top_of(value)), top_of(count))
+    match (passed_on(way, y.value), passed_on(way, y.count)) {
+        (Some(value), Some(count)) => is_so_by(way, y, value, count),
+        _ => false,
+    }
 }
 
 // Whether what is divided where the way leads is so behind the instruction.

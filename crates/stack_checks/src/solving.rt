@@ -1,12 +1,11 @@
 //! What a table says of registers by lines and accesses: an access says where it may be, and so what the register holds through which it goes,
 //! even where a load overwrites that, and a line of a sum of that and of another register says what the other one holds.
 
-ghost use Rattle.std.specs.Prelude.{◌≡◌, ◌<◌, is_some, IfSome, Some, true};
-ghost use Rattle.bound_laws.specs.Registers.{keeps};
+ghost use Rattle.std.specs.Prelude.{◌≡◌, ◌<◌, IfSome, Some, true};
 ghost use Rattle.bound_laws.specs.Values as values;
 ghost use Rattle.stack_laws.specs.Areas.{IsAccess, IsSolvedByAccess, IsSolvedTo};
 ghost use Rattle.wrapped_intervals.specs.Small.{IsFoundOr, IsKept, IsKeptOr, measure_view};
-ghost use Rattle.stack_checks.specs.Checked.{IsAccessedAlong, IsBased, IsSideOf, IsSolvedOn, IsWay, from, passed_along, stacks_along, to, values_along};
+ghost use Rattle.stack_checks.specs.Checked.{IsAccessedAlong, IsBased, IsSideOf, IsSolvedOn, IsWay, from, stacks_along, to, values_along};
 
 use crate::accesses::{access_of, accessed_in};
 use crate::lines::is_known_behind;
@@ -77,7 +76,7 @@ fn based_on(way: &Way<'_>, register: u8, more: u32) -> Option<Based>
 }
 
 // The register through which the instruction accesses memory.
-fn based(way: &Way<'_>) -> Option<Based>
+fn base_of(way: &Way<'_>) -> Option<Based>
     requires { IsWay way.now }
     ensures { IfSome result (IsBased way.now) }
 {
@@ -198,7 +197,7 @@ pub fn is_solved_by_access(way: &Way<'_>, r: u8) -> bool
     ensures { result ≡ true → IsSolvedByAccess (values_along way.now) (stacks_along way.now).areas way.now.instr (from way.now)
         (to way.now) r }
 {
-    match based(way) {
+    match base_of(way) {
         Some(b) => is_solved_through(way, r, &b),
         None => false,
     }

@@ -1,4 +1,3 @@
-use Rattle.std.proofs.Common.{refl}
 use Rattle.stack_laws.specs.Digits.IsDwindlingBy.{handed}
 use Rattle.stack_tables.specs.Tables.{dwindling_view}
 use Rattle.stack_checks.specs.Checked.{IsSomeDivided, dwindling_before}
