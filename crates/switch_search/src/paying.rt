@@ -18,6 +18,24 @@ pub struct Tries<'a> {
     pub rate: u128,
 }
 
+/// The energy of an image on an input.
+fn spent_on<'a, P: Progress>(
+    alloc: Global,
+    image: &'a [u8],
+    machine: &'a [u8],
+    input: &'a [u8],
+    progress: &mut P,
+) -> Result<u128, Stop> {
+    let files = RunFiles {
+        image,
+        machine,
+        input,
+        loops: None,
+    };
+    let report = simulate_with_progress(alloc, &files, progress)?;
+    Ok(report.meter.energy)
+}
+
 /// The energy of an image over the inputs. How far its runs are is told.
 fn spent<P: Progress>(
     alloc: Global,
@@ -30,14 +48,9 @@ fn spent<P: Progress>(
     for k in tries.runs.places {
         progress.next(Part::Input);
         if *k < tries.runs.inputs.len() {
-            let files = RunFiles {
-                image,
-                machine: tries.files.machine,
-                input: &tries.runs.inputs[*k],
-                loops: None,
-            };
-            let report = simulate_with_progress(alloc, &files, progress)?;
-            energy = energy.saturating_add(report.meter.energy);
+            let input = &tries.runs.inputs[*k];
+            let more = spent_on(alloc, image, tries.files.machine, input, progress)?;
+            energy = energy.saturating_add(more);
         }
     }
     Ok(energy)
