@@ -11,7 +11,8 @@ pub wider_in : (b z : Option Trace) (x y n : ℕ) → IsTraced z x y n → IsWid
 wider_in None z x y n h q = tt
 wider_in (Some s) None x y n h q = absurd q
 wider_in (Some s) (Some z) x y n h q = (
-  h.0, in_covers z.more s.more h.0 h.1 q.2,
+  h.0,
+  in_covers z.more s.more h.0 h.1 q.2,
   h.2 ∙ (ap (λ f. (f * x + z.seconds * y + h.0) % 2 ^ 32) (sym q.0) ∙ ap (λ f. (s.firsts * x + f * y + h.0) % 2 ^ 32) (sym q.1)),
 )
 
@@ -39,9 +40,10 @@ pub both_in : (z u : Option Trace) (x y n m : ℕ) → IsTraced z x y n → IsTr
 both_in None u x y n m h k = tt
 both_in (Some s) None x y n m h k = tt
 both_in (Some s) (Some z) x y n m h k = (
-  plus h.0 k.0, sum_in s.more z.more h.0 k.0 h.1 k.1,
+  plus h.0 k.0,
+  sum_in s.more z.more h.0 k.0 h.1 k.1,
   both_more n m (s.firsts * x + s.seconds * y) (z.firsts * x + z.seconds * y) h.0 k.0 h.2 k.2
-  ∙ ap (λ f. (f + plus h.0 k.0) % 2 ^ 32) (four s.firsts s.seconds z.firsts z.seconds x y),
+      ∙ ap (λ f. (f + plus h.0 k.0) % 2 ^ 32) (four s.firsts s.seconds z.firsts z.seconds x y),
 )
 
 twice : (n : ℕ) → n % 2 ^ 32 % 2 ^ 32 ≡ n % 2 ^ 32
@@ -63,7 +65,8 @@ times_more k n f d e =
 pub times_in : (z : Option Trace) (x y n k : ℕ) → IsTraced z x y n → IsTraced (multiplied z k) x y (k * n % 2 ^ 32)
 times_in None x y n k h = tt
 times_in (Some s) x y n k h = (
-  k * h.0 % 2 ^ 32, scaled_in k s.more h.0 h.1,
+  k * h.0 % 2 ^ 32,
+  scaled_in k s.more h.0 h.1,
   times_more k n (s.firsts * x + s.seconds * y) h.0 h.2 ∙ ap (λ f. (f + k * h.0 % 2 ^ 32) % 2 ^ 32) (times_two k s.firsts s.seconds x y),
 )
 
