@@ -1,9 +1,9 @@
 -- What registers tell of others is so behind an instruction, where its edge is covered, and so is what follows for intervals.
 use Rattle.std.proofs.Common.{◌≡◌, ◌≢◌, ℕ, zero, suc, ◌+◌, ◌-◌, ◌<◌, ◌≤◌, ◌%◌, ◌^◌, ⊎_elim, Bool, true, false, List, length, refl, sym, ap, ◌∙◌, subst, arith, Option, Some, None}
 use Rattle.std.specs.Prelude.{ℤ, ◌==◌, not, nat_lt, int_lt, bit_and, bit_or, bit_xor}
-use Rattle.std.specs.Int.Bits.{and_zero_l, and_zero_r}
+use Rattle.std.specs.Int.Bits.{and_zero_l, and_zero_r, xor_assoc, xor_self, xor_zero_l, xor_zero_r}
 use Rattle.std.proofs.lemmas.Nat.{le_or_l, le_or_r}
-use Rattle.std.proofs.lemmas.Bool.{cond-true, cond-false, not-false, ltb-true, ltb-false}
+use Rattle.std.proofs.lemmas.Bool.{not-false, ltb-true, ltb-false, eqb-true, eqb-false}
 use Rattle.scale_base.specs.declared.instruction.BranchOp.{BranchOp}
 use Rattle.scale_base.specs.declared.instruction.BranchOp.TheVariants.{Beq, Bne, Blt, Bge, Bltu, Bgeu}
 use Rattle.scale_base.specs.declared.instruction.ImmOp.{ImmOp}
@@ -15,9 +15,9 @@ use Rattle.scale_base.specs.declared.instruction.Instr.TheVariants.{Imm, Reg}
 use Rattle.scale_base.specs.Arith.{plus, unsigned, signed, one_if, is_taken, imm_result, reg_result}
 use Rattle.scale_base.specs.State.{reg}
 use Rattle.bound_laws.specs.Registers.{keeps}
-use Rattle.bound_laws.specs.Values.{Arc, IsIn, IsHeld, arc, exactly, ahead, held, sum_with, meet, meet_of, opposite, is_signed, view, of_view, Interval, first_range, second_range, first_by, second_by, passed, Covers, IsRegister, Values}
-use Rattle.bound_laws.proofs.Laws.{IsBetween, first_between, held_of, in_covers, in_exactly, meet_in, meet_of_in, of_biased, of_plain, only_one, second_between, seen, seen_in, sum_with_in, word_of}
-use Rattle.stack_laws.specs.Telling.{Told, IsSo, AreSo, IsTelling, imm_test, reg_test, test_where, IsCompared, IsHanded, IsCarried, IsToldBy, IsToldBehind, IsToldTo}
+use Rattle.bound_laws.specs.Values.{Arc, IsIn, IsHeld, arc, exactly, ahead, held, sum_with, meet_of, opposite, opposite_of, first_by, second_by, passed, Covers, IsRegister, Values}
+use Rattle.bound_laws.proofs.Laws.{first_in, held_of, in_covers, in_exactly, meet_of_in, only_one, second_in, sum_with_in, word_of}
+use Rattle.stack_laws.specs.Telling.{Told, IsSo, AreSo, IsTelling, imm_test, reg_test, compared_with, test_where, IsCompared, IsHanded, IsCarried, IsToldBy, IsToldBehind, IsToldTo}
 use Rattle.stack_laws.specs.Telling.IsCompared.{with_number, first, second}
 use Rattle.stack_laws.specs.Telling.IsHanded.{left, copied, is_not_zero, is_zero, turned, masked, both_first, both_second, either_first, either_second}
 use Rattle.stack_laws.specs.Telling.IsCarried.{left as left_about, summed}
@@ -25,25 +25,17 @@ use Rattle.stack_laws.specs.Telling.IsToldBy.{known, never, compared, handed}
 
 -- ---- what the intervals of two registers and a comparison of them say
 
-back : (op : BranchOp) (i : Interval) (n : ℕ) → n < 2 ^ 32 → IsBetween i (seen op n) → IsIn (of_view op i) n
-back op i n small h = by (is_signed op) refl
-  where
-    by : (b : Bool) → is_signed op ≡ b → IsIn (of_view op i) n
-    by true e = subst (λ k. IsIn k n) (sym (cond-true _ _ _ e)) (of_biased i n small (subst (λ m. IsBetween i m) (cond-true _ _ _ e) h))
-    by false e = subst (λ k. IsIn k n) (sym (cond-false _ _ _ e)) (of_plain i n small (subst (λ m. IsBetween i m) (cond-false _ _ _ e) h))
+-- of words that compare so
+first_told : (op : BranchOp) (i j : Option Arc) (x y : ℕ) → IsHeld i x → IsHeld j y → (x < 2 ^ 32 → y < 2 ^ 32 → is_taken op x y ≡ true) → IsHeld (first_by op i j) x
+first_told op None j x y a b h = tt
+first_told op (Some i) None x y a b h = a
+first_told op (Some i) (Some j) x y a b h = first_in op (Some i) (Some j) x y a b (h a.word b.word)
 
-first_met : (op : BranchOp) (i j : Arc) (x y : ℕ) → IsIn i x → IsIn j y → is_taken op x y ≡ true → IsIn (meet i (of_view op (first_range op (view op i) (view op j)))) x
-first_met op i j x y a b h = meet_in i (of_view op (first_range op (view op i) (view op j))) x a
-    (back op (first_range op (view op i) (view op j)) x a.word (first_between op (view op i) (view op j) x y a.word b.word (seen_in op i x a) (seen_in op j y b) h))
-
-second_met : (op : BranchOp) (i j : Arc) (x y : ℕ) → IsIn i x → IsIn j y → is_taken op x y ≡ true → IsIn (meet j (of_view op (second_range op (view op i) (view op j)))) y
-second_met op i j x y a b h = meet_in j (of_view op (second_range op (view op i) (view op j))) y b
-    (back op (second_range op (view op i) (view op j)) y b.word (second_between op (view op i) (view op j) x y a.word b.word (seen_in op i x a) (seen_in op j y b) h))
-
--- the two comparisons that an instruction writes
-data IsTest : BranchOp → Type 0 where
-  signed_test : IsTest Blt
-  unsigned_test : IsTest Bltu
+second_told : (op : BranchOp) (i j : Option Arc) (x y : ℕ) → IsHeld i x → IsHeld j y → (x < 2 ^ 32 → y < 2 ^ 32 → is_taken op x y ≡ true) → IsHeld (second_by op i j) y
+second_told op None None x y a b h = tt
+second_told op (Some i) None x y a b h = tt
+second_told op None (Some j) x y a b h = b
+second_told op (Some i) (Some j) x y a b h = second_in op (Some i) (Some j) x y a b (h a.word b.word)
 
 opposite_so : (test : BranchOp) (x y : ℕ) → is_taken test x y ≡ false → is_taken (opposite test) x y ≡ true
 opposite_so Beq x y h = ap not h
@@ -52,31 +44,6 @@ opposite_so Blt x y h = ap not h
 opposite_so Bge x y h = not-false (int_lt (signed x) (signed y)) h
 opposite_so Bltu x y h = ap not h
 opposite_so Bgeu x y h = not-false (nat_lt x y) h
-
-first_told : (test : BranchOp) (kind : Bool) (i j : Option Arc) (x y : ℕ) → IsTest test → IsHeld i x → IsHeld j y → is_taken (test_where kind test) x y ≡ true → IsHeld (first_by (test_where kind test) i j) x
-first_told test kind None j x y t a b h = tt
-first_told test kind (Some i) None x y t a b h = a
-first_told Blt true (Some i) (Some j) x y signed_test a b h = first_met Bge i j x y a b h
-first_told Blt false (Some i) (Some j) x y signed_test a b h = first_met Blt i j x y a b h
-first_told Bltu true (Some i) (Some j) x y unsigned_test a b h = first_met Bgeu i j x y a b h
-first_told Bltu false (Some i) (Some j) x y unsigned_test a b h = first_met Bltu i j x y a b h
-first_told Beq kind (Some i) (Some j) x y t a b h = elim t [ ]
-first_told Bne kind (Some i) (Some j) x y t a b h = elim t [ ]
-first_told Bge kind (Some i) (Some j) x y t a b h = elim t [ ]
-first_told Bgeu kind (Some i) (Some j) x y t a b h = elim t [ ]
-
-second_told : (test : BranchOp) (kind : Bool) (i j : Option Arc) (x y : ℕ) → IsTest test → IsHeld i x → IsHeld j y → is_taken (test_where kind test) x y ≡ true → IsHeld (second_by (test_where kind test) i j) y
-second_told test kind None None x y t a b h = tt
-second_told test kind (Some i) None x y t a b h = tt
-second_told test kind None (Some j) x y t a b h = b
-second_told Blt true (Some i) (Some j) x y signed_test a b h = second_met Bge i j x y a b h
-second_told Blt false (Some i) (Some j) x y signed_test a b h = second_met Blt i j x y a b h
-second_told Bltu true (Some i) (Some j) x y unsigned_test a b h = second_met Bgeu i j x y a b h
-second_told Bltu false (Some i) (Some j) x y unsigned_test a b h = second_met Bltu i j x y a b h
-second_told Beq kind (Some i) (Some j) x y t a b h = elim t [ ]
-second_told Bne kind (Some i) (Some j) x y t a b h = elim t [ ]
-second_told Bge kind (Some i) (Some j) x y t a b h = elim t [ ]
-second_told Bgeu kind (Some i) (Some j) x y t a b h = elim t [ ]
 
 -- what is written is 0 or not, by the comparison
 written_so : (b kind : Bool) → IsSo kind (one_if b) → b ≡ not kind
@@ -89,40 +56,73 @@ where_so : (test : BranchOp) (kind : Bool) (x y : ℕ) → is_taken test x y ≡
 where_so test true x y h = opposite_so test x y h
 where_so test false x y h = h
 
-result_so : (op : RegOp) (test : BranchOp) (x y : ℕ) → reg_test op ≡ Some test → IsTest test × (reg_result op x y ≡ one_if (is_taken test x y))
-result_so Slt test x y e = let q : Blt ≡ test = cc in subst (λ t. IsTest t × (one_if (int_lt (signed x) (signed y)) ≡ one_if (is_taken t x y))) q (signed_test, refl)
-result_so Sltu test x y e = let q : Bltu ≡ test = cc in subst (λ t. IsTest t × (one_if (nat_lt x y) ≡ one_if (is_taken t x y))) q (unsigned_test, refl)
-result_so Add test x y e = let bad : ⊥ = cc in absurd bad
-result_so Sub test x y e = let bad : ⊥ = cc in absurd bad
-result_so Sll test x y e = let bad : ⊥ = cc in absurd bad
-result_so Xor test x y e = let bad : ⊥ = cc in absurd bad
-result_so Srl test x y e = let bad : ⊥ = cc in absurd bad
-result_so Sra test x y e = let bad : ⊥ = cc in absurd bad
-result_so Or test x y e = let bad : ⊥ = cc in absurd bad
-result_so And test x y e = let bad : ⊥ = cc in absurd bad
-result_so Mul test x y e = let bad : ⊥ = cc in absurd bad
-result_so Mulh test x y e = let bad : ⊥ = cc in absurd bad
-result_so Mulhsu test x y e = let bad : ⊥ = cc in absurd bad
-result_so Mulhu test x y e = let bad : ⊥ = cc in absurd bad
-result_so Div test x y e = let bad : ⊥ = cc in absurd bad
-result_so Divu test x y e = let bad : ⊥ = cc in absurd bad
-result_so Rem test x y e = let bad : ⊥ = cc in absurd bad
-result_so Remu test x y e = let bad : ⊥ = cc in absurd bad
+test_so : (test : BranchOp) (kind : Bool) (x y : ℕ) → IsSo kind (one_if (is_taken test x y)) → is_taken (test_where kind test) x y ≡ true
+test_so test kind x y so = where_so test kind x y (written_so (is_taken test x y) kind so)
 
-number_so : (op : ImmOp) (test : BranchOp) (x : ℕ) (imm : ℤ) → imm_test op ≡ Some test → IsTest test × (imm_result op x imm ≡ one_if (is_taken test x (unsigned imm)))
-number_so Slti test x imm e = result_so Slt test x (unsigned imm) e
-number_so Sltiu test x imm e = result_so Sltu test x (unsigned imm) e
-number_so Addi test x imm e = let bad : ⊥ = cc in absurd bad
-number_so Xori test x imm e = let bad : ⊥ = cc in absurd bad
-number_so Ori test x imm e = let bad : ⊥ = cc in absurd bad
-number_so Andi test x imm e = let bad : ⊥ = cc in absurd bad
-number_so Slli test x imm e = let bad : ⊥ = cc in absurd bad
-number_so Srli test x imm e = let bad : ⊥ = cc in absurd bad
-number_so Srai test x imm e = let bad : ⊥ = cc in absurd bad
+-- what is 0 where two numbers are the same, and there alone
+differ_so : (kind : Bool) (x y n : ℕ) → (n ≡ 0 → x ≡ y) → (x ≡ y → n ≡ 0) → IsSo kind n → is_taken (test_where kind Bne) x y ≡ true
+differ_so true x y n same none h = by (x == y) refl
+  where
+    by : (b : Bool) → (x == y) ≡ b → (x == y) ≡ true
+    by true e = e
+    by false e = absurd (eqb-false x y e (same h))
+differ_so false x y n same none h = by (x == y) refl
+  where
+    by : (b : Bool) → (x == y) ≡ b → not (x == y) ≡ true
+    by true e = absurd (h (none (eqb-true x y e)))
+    by false e = ap not e
 
--- where a comparison of these numbers was written, it holds, or its opposite
-taken_so : (test : BranchOp) (kind : Bool) (x y n m : ℕ) → n ≡ m → m ≡ one_if (is_taken test x y) → IsSo kind n → is_taken (test_where kind test) x y ≡ true
-taken_so test kind x y n m is written so = where_so test kind x y (written_so (is_taken test x y) kind (subst (IsSo kind) (is ∙ written) so))
+minus_same : (x y : ℕ) → x < 2 ^ 32 → y < 2 ^ 32 → (x + (2 ^ 32 - y)) % 2 ^ 32 ≡ 0 → x ≡ y
+minus_same x y a b h = omega arith
+
+minus_none : (x y : ℕ) → x < 2 ^ 32 → y < 2 ^ 32 → x ≡ y → (x + (2 ^ 32 - y)) % 2 ^ 32 ≡ 0
+minus_none x y a b h = omega arith
+
+plus_same : (x n : ℕ) → x < 2 ^ 32 → plus x n ≡ 0 → x ≡ opposite_of n
+plus_same x n a h = omega arith
+
+plus_none : (x n : ℕ) → x ≡ opposite_of n → plus x n ≡ 0
+plus_none x n h = omega arith
+
+xor_same : (x y : ℕ) → bit_xor x y ≡ 0 → x ≡ y
+xor_same x y h = sym (xor_zero_r x) ∙ ap (bit_xor x) (sym (xor_self y)) ∙ sym (xor_assoc x y y) ∙ ap (λ k. bit_xor k y) h ∙ xor_zero_l y
+
+xor_none : (x y : ℕ) → x ≡ y → bit_xor x y ≡ 0
+xor_none x y h = ap (λ k. bit_xor k y) h ∙ xor_self y
+
+of_test : (test is : BranchOp) (kind : Bool) (x y : ℕ) → Some is ≡ Some test → is_taken (test_where kind is) x y ≡ true → is_taken (test_where kind test) x y ≡ true
+of_test test is kind x y e h = let q : is ≡ test = cc in subst (λ t. is_taken (test_where kind t) x y ≡ true) q h
+
+result_so : (op : RegOp) (test : BranchOp) (kind : Bool) (x y : ℕ) → reg_test op ≡ Some test → IsSo kind (reg_result op x y) → x < 2 ^ 32 → y < 2 ^ 32 → is_taken (test_where kind test) x y ≡ true
+result_so Slt test kind x y e so a b = of_test test Blt kind x y e (test_so Blt kind x y so)
+result_so Sltu test kind x y e so a b = of_test test Bltu kind x y e (test_so Bltu kind x y so)
+result_so Sub test kind x y e so a b = of_test test Bne kind x y e (differ_so kind x y (reg_result Sub x y) (minus_same x y a b) (minus_none x y a b) so)
+result_so Xor test kind x y e so a b = of_test test Bne kind x y e (differ_so kind x y (bit_xor x y) (xor_same x y) (xor_none x y) so)
+result_so Add test kind x y e so a b = let bad : ⊥ = cc in absurd bad
+result_so Sll test kind x y e so a b = let bad : ⊥ = cc in absurd bad
+result_so Srl test kind x y e so a b = let bad : ⊥ = cc in absurd bad
+result_so Sra test kind x y e so a b = let bad : ⊥ = cc in absurd bad
+result_so Or test kind x y e so a b = let bad : ⊥ = cc in absurd bad
+result_so And test kind x y e so a b = let bad : ⊥ = cc in absurd bad
+result_so Mul test kind x y e so a b = let bad : ⊥ = cc in absurd bad
+result_so Mulh test kind x y e so a b = let bad : ⊥ = cc in absurd bad
+result_so Mulhsu test kind x y e so a b = let bad : ⊥ = cc in absurd bad
+result_so Mulhu test kind x y e so a b = let bad : ⊥ = cc in absurd bad
+result_so Div test kind x y e so a b = let bad : ⊥ = cc in absurd bad
+result_so Divu test kind x y e so a b = let bad : ⊥ = cc in absurd bad
+result_so Rem test kind x y e so a b = let bad : ⊥ = cc in absurd bad
+result_so Remu test kind x y e so a b = let bad : ⊥ = cc in absurd bad
+
+number_so : (op : ImmOp) (test : BranchOp) (kind : Bool) (x : ℕ) (imm : ℤ) → imm_test op ≡ Some test → IsSo kind (imm_result op x imm) → x < 2 ^ 32 → compared_with op (unsigned imm) < 2 ^ 32 → is_taken (test_where kind test) x (compared_with op (unsigned imm)) ≡ true
+number_so Slti test kind x imm e so a b = result_so Slt test kind x (unsigned imm) e so a b
+number_so Sltiu test kind x imm e so a b = result_so Sltu test kind x (unsigned imm) e so a b
+number_so Addi test kind x imm e so a b = of_test test Bne kind x (opposite_of (unsigned imm)) e (differ_so kind x (opposite_of (unsigned imm)) (plus x (unsigned imm)) (plus_same x (unsigned imm) a) (plus_none x (unsigned imm)) so)
+number_so Xori test kind x imm e so a b = result_so Xor test kind x (unsigned imm) e so a b
+number_so Ori test kind x imm e so a b = let bad : ⊥ = cc in absurd bad
+number_so Andi test kind x imm e so a b = let bad : ⊥ = cc in absurd bad
+number_so Slli test kind x imm e so a b = let bad : ⊥ = cc in absurd bad
+number_so Srli test kind x imm e so a b = let bad : ⊥ = cc in absurd bad
+number_so Srai test kind x imm e so a b = let bad : ⊥ = cc in absurd bad
 
 -- ---- what an interval says of 0
 
@@ -217,20 +217,18 @@ module _ (v : Values) (told : ℕ → Option Told) (a b : ℕ) (i : Instr) (befo
 
   compared_in : (y : Told) → IsRegister y.teller → IsCompared v i a y → After y → IsIn y.arc (reg before y.about)
   compared_in y is (with_number op test imm e t c) so =
-      let w = number_so op test (reg before y.about) imm t in
-      let h : is_taken (test_where y.zero test) (reg before y.about) (unsigned imm) ≡ true = taken_so test y.zero (reg before y.about) (unsigned imm) (reg after y.teller) (imm_result op (reg before y.about) imm) (numbers op y.teller y.about imm is e) w.1 so in
-      in_covers (first_by (test_where y.zero test) (held (v.at a) y.about) (exactly (unsigned imm))) (Some y.arc) (reg before y.about)
-      (first_told test y.zero (held (v.at a) y.about) (exactly (unsigned imm)) (reg before y.about) (unsigned imm) w.0 (has y.about) (in_exactly (unsigned imm)) h) c
+      let n : ℕ = compared_with op (unsigned imm) in
+      let w : IsSo y.zero (imm_result op (reg before y.about) imm) = subst (IsSo y.zero) (numbers op y.teller y.about imm is e) so in
+      in_covers (first_by (test_where y.zero test) (held (v.at a) y.about) (exactly n)) (Some y.arc) (reg before y.about)
+      (first_told (test_where y.zero test) (held (v.at a) y.about) (exactly n) (reg before y.about) n (has y.about) (in_exactly n) (number_so op test y.zero (reg before y.about) imm t w)) c
   compared_in y is (first op test other e t c) so =
-      let w = result_so op test (reg before y.about) (reg before other) t in
-      let h : is_taken (test_where y.zero test) (reg before y.about) (reg before other) ≡ true = taken_so test y.zero (reg before y.about) (reg before other) (reg after y.teller) (reg_result op (reg before y.about) (reg before other)) (results op y.teller y.about other is e) w.1 so in
+      let w : IsSo y.zero (reg_result op (reg before y.about) (reg before other)) = subst (IsSo y.zero) (results op y.teller y.about other is e) so in
       in_covers (first_by (test_where y.zero test) (held (v.at a) y.about) (held (v.at a) other)) (Some y.arc) (reg before y.about)
-      (first_told test y.zero (held (v.at a) y.about) (held (v.at a) other) (reg before y.about) (reg before other) w.0 (has y.about) (has other) h) c
+      (first_told (test_where y.zero test) (held (v.at a) y.about) (held (v.at a) other) (reg before y.about) (reg before other) (has y.about) (has other) (result_so op test y.zero (reg before y.about) (reg before other) t w)) c
   compared_in y is (second op test other e t c) so =
-      let w = result_so op test (reg before other) (reg before y.about) t in
-      let h : is_taken (test_where y.zero test) (reg before other) (reg before y.about) ≡ true = taken_so test y.zero (reg before other) (reg before y.about) (reg after y.teller) (reg_result op (reg before other) (reg before y.about)) (results op y.teller other y.about is e) w.1 so in
+      let w : IsSo y.zero (reg_result op (reg before other) (reg before y.about)) = subst (IsSo y.zero) (results op y.teller other y.about is e) so in
       in_covers (second_by (test_where y.zero test) (held (v.at a) other) (held (v.at a) y.about)) (Some y.arc) (reg before y.about)
-      (second_told test y.zero (held (v.at a) other) (held (v.at a) y.about) (reg before other) (reg before y.about) w.0 (has other) (has y.about) h) c
+      (second_told (test_where y.zero test) (held (v.at a) other) (held (v.at a) y.about) (reg before other) (reg before y.about) (has other) (has y.about) (result_so op test y.zero (reg before other) (reg before y.about) t w)) c
 
   -- of the same kind, and of the other one
   same_kind : (z y : Told) (n : ℕ) → z.zero ≡ y.zero → IsSo y.zero n → IsSo z.zero n

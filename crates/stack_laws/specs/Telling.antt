@@ -1,19 +1,20 @@
 -- Tellings: where a register is 0, or where it isn't, another register is in an interval. A comparison that an instruction writes to a
--- register is the first of them, and conjunctions, disjunctions and negations hand them on (RISC-V Unprivileged ISA, RV32I: SLT, SLTU,
--- SLTI, SLTIU, AND, ANDI, OR, XORI, and the pseudoinstructions MV, SEQZ and SNEZ). So a branch tells of all that was compared.
+-- register is the first of them, and so is a difference, which is 0 where two words are the same; conjunctions, disjunctions and negations
+-- hand them on (RISC-V Unprivileged ISA, RV32I: SLT, SLTU, SLTI, SLTIU, ADDI, SUB, AND, ANDI, OR, XOR, XORI, and the pseudoinstructions
+-- MV, SEQZ and SNEZ). So a branch tells of all that was compared.
 use Rattle.std.specs.Prelude.{◌≡◌, ◌≢◌, ℕ, ℤ, ◌<◌, ◌⊎◌, not, Bool, true, false, List, Option, Some, None, is_some, if◌then◌else◌}
 use Rattle.scale_base.specs.declared.instruction.BranchOp.{BranchOp}
-use Rattle.scale_base.specs.declared.instruction.BranchOp.TheVariants.{Blt, Bltu}
+use Rattle.scale_base.specs.declared.instruction.BranchOp.TheVariants.{Bne, Blt, Bltu}
 use Rattle.scale_base.specs.declared.instruction.ImmOp.{ImmOp}
 use Rattle.scale_base.specs.declared.instruction.ImmOp.TheVariants.{Addi, Slti, Sltiu, Xori, Andi}
 use Rattle.scale_base.specs.declared.instruction.RegOp.{RegOp}
-use Rattle.scale_base.specs.declared.instruction.RegOp.TheVariants.{Slt, Sltu, Or, And}
+use Rattle.scale_base.specs.declared.instruction.RegOp.TheVariants.{Sub, Slt, Sltu, Xor, Or, And}
 use Rattle.scale_base.specs.declared.instruction.Instr.{Instr}
 use Rattle.scale_base.specs.declared.instruction.Instr.TheVariants.{Imm, Reg}
 use Rattle.scale_base.specs.Arith.{unsigned}
 use Rattle.scale_base.specs.State.{reg}
 use Rattle.bound_laws.specs.Registers.{keeps}
-use Rattle.bound_laws.specs.Values.{Arc, IsIn, ahead, arc, exactly, sum_with, held, Covers, meet_of, opposite, first_by, second_by, passed, IsRegister, Values}
+use Rattle.bound_laws.specs.Values.{Arc, IsIn, ahead, arc, exactly, sum_with, held, Covers, meet_of, opposite, opposite_of, first_by, second_by, passed, IsRegister, Values}
 
 -- where the teller is 0, if `zero`, or where it isn't, otherwise, the register that it tells about is in the interval
 pub record Told : Type 0 where
@@ -40,25 +41,36 @@ IsTelling (Some y) regs = IsSo y.zero (reg regs y.teller) → IsIn y.arc (reg re
 
 -- ---- what an instruction writes
 
--- a comparison: 1 where it holds, and 0 where it doesn't
+-- The comparison of two words that holds where what is written isn't 0, and doesn't hold where it is: the one that the instruction is named
+-- for, or, of a difference, that they aren't the same.
 abbrev pub imm_test : ImmOp → Option BranchOp
 imm_test Slti = Some Blt
 imm_test Sltiu = Some Bltu
+imm_test Addi = Some Bne
+imm_test Xori = Some Bne
 imm_test op = None
 
 abbrev pub reg_test : RegOp → Option BranchOp
 reg_test Slt = Some Blt
 reg_test Sltu = Some Bltu
+reg_test Sub = Some Bne
+reg_test Xor = Some Bne
 reg_test op = None
+
+-- the word with which an operation with a number compares: a sum with the number is 0 of what is as much below 0
+abbrev pub compared_with : ImmOp → ℕ → ℕ
+compared_with Addi n = opposite_of n
+compared_with op n = n
 
 -- the one that holds where what is written is 0, or isn't
 abbrev pub test_where : Bool → BranchOp → BranchOp
 test_where zero op = if zero then opposite op else op
 
--- The instruction compares a register that it leaves, with a number or another register, and writes that to the teller.
+-- The instruction compares a register that it leaves, with a number or another register, or makes their difference, and writes that to the
+-- teller.
 pub data IsCompared (v : Values) (i : Instr) (a : ℕ) (y : Told) : Type 0 where
   with_number : (op : ImmOp) (test : BranchOp) (imm : ℤ) → i ≡ Imm op y.teller y.about imm → imm_test op ≡ Some test →
-      Covers (Some y.arc) (first_by (test_where y.zero test) (held (v.at a) y.about) (exactly (unsigned imm))) → IsCompared v i a y
+      Covers (Some y.arc) (first_by (test_where y.zero test) (held (v.at a) y.about) (exactly (compared_with op (unsigned imm)))) → IsCompared v i a y
   first : (op : RegOp) (test : BranchOp) (other : ℕ) → i ≡ Reg op y.teller y.about other → reg_test op ≡ Some test →
       Covers (Some y.arc) (first_by (test_where y.zero test) (held (v.at a) y.about) (held (v.at a) other)) → IsCompared v i a y
   second : (op : RegOp) (test : BranchOp) (other : ℕ) → i ≡ Reg op y.teller other y.about → reg_test op ≡ Some test →

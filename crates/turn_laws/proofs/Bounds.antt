@@ -1,4 +1,4 @@
--- Bounds that tables of the stack show, in one way or in the other, are kept.
+-- Bounds that tables of the stack show, in one way or in another, are kept.
 use Rattle.std.proofs.Common.{◌≡◌, ℕ, suc, ◌*◌, ◌/◌, ◌<◌, ◌≤◌, ◌⊎◌, ⊎_elim, length, refl, sym, ap, ◌∙◌, subst, arith, Some}
 use Rattle.std.specs.Prelude.{All, Option}
 use Rattle.std.proofs.Math.Nat.{le-div_iff_mul-le}
@@ -23,6 +23,8 @@ use Rattle.stack_laws.specs.Stacks.{Stacks, view_of, IsStackInvariant, AreTold}
 use Rattle.stack_laws.specs.Counting as counting
 use Rattle.stack_laws.proofs.Laws.{image_laid, image_told, runs_come_back}
 use Rattle.stack_laws.proofs.Laws.{stacks_bound_turns}
+use Rattle.walk_areas.specs.Walking.{IsWalkShown}
+use Rattle.walk_areas.proofs.Laws.{walks_bound}
 use Rattle.turn_laws.specs.Relating.{IsInputWithin, IsShown, IsTurnShown}
 use Rattle.turn_laws.specs.Laws.{ShownBoundsAreKept, ShownBoundsAreKeptByReturns, RunsAreKept}
 use Rattle.turn_laws.proofs.Counts.{turns_bound}
@@ -42,8 +44,11 @@ module _ (t : Text) (env : Setting) (s : State) (code : Code) (v : Values) (w : 
   bounded k has n d kept = ⊎_elim
       (λ (q : counting.IsShown t (text_graph t code) v w l k). few_turns (d.counts k) q.certificate.least q.certificate.width (l.bound k) q.positive
       (stacks_bound_turns t env s code v w l k q.certificate start reached inv laid starts bytes input q.is q.within n d kept) q.enough)
+      (λ (others : IsTurnShown t (text_graph t code) v w most l k ⊎ IsWalkShown t (text_graph t code) v w l k). ⊎_elim
       (λ (q : IsTurnShown t (text_graph t code) v w most l k). few_turns (d.counts k) q.certificate.least q.certificate.width (l.bound k) q.positive
-      (turns_bound t env s code v w most l k q.certificate start reached inv laid starts bytes input within q.is n d kept) q.enough) has
+      (turns_bound t env s code v w most l k q.certificate start reached inv laid starts bytes input within q.is n d kept) q.enough)
+      (λ (q : IsWalkShown t (text_graph t code) v w l k). few_turns (d.counts k) q.certificate.least q.certificate.width (l.bound k) q.positive
+      (walks_bound t env s code v w l k q.certificate start reached inv laid starts bytes input q.is n d kept) q.enough) others) has
 
   pub kept_by_shown : ((k : ℕ) → k < l.loops → IsShown t (text_graph t code) v w most l k × (l.least_trips k ≡ 0)) → (n : ℕ) (d : Carried) → kept_at env s (unasked l) n ≡ Some d → kept_at env s l n ≡ Some d
   kept_by_shown has n d kept = kept_too l (unasked l) (λ c x. refl) env s

@@ -16,6 +16,7 @@ use Rattle.bound_laws.specs.Turning.{Leads, Calls}
 use Rattle.bound_laws.specs.Values.{Arc, arc, strided, Covers, IsHeld, held, least_of, top_of, sum_of, sum_with, difference_of, scaled, passed, Said, said, IsImpossible, IsRegister, Values, Steps}
 use Rattle.stack_laws.specs.Counting as counting
 use Rattle.stack_laws.specs.Stacks.{Stacks, IsLoadedTo, IsStoredFrom, IsMissed, IsRestored, IsSafe}
+use Rattle.walk_areas.specs.Walking.{IsWalkShown}
 
 -- ---- relations
 
@@ -456,12 +457,13 @@ abbrev pub IsInputWithin : Option ℕ → List ℕ → Type 0
 IsInputWithin None input = Unit {0}
 IsInputWithin (Some n) input = length input ≤ n
 
--- A bound of a loop that the code alone shows, in one way or in the other.
+-- A bound of a loop that the code alone shows by its turns.
 pub record IsTurnShown (t : Text) (g : Graph) (v : Values) (w : Stacks) (most : Option ℕ) (l : Loops) (k : ℕ) : Type 0 where
   pub certificate : TurnCertificate
   pub is : IsTurnCertificate t g v w most (l.header k) (l.inside k) certificate
   pub positive : 0 < certificate.least
   pub enough : certificate.width / certificate.least ≤ l.bound k
 
+-- or in one of the other ways: by a counter, or by a walk
 abbrev pub IsShown : Text → Graph → Values → Stacks → Option ℕ → Loops → ℕ → Type 0
-IsShown t g v w most l k = counting.IsShown t g v w l k ⊎ IsTurnShown t g v w most l k
+IsShown t g v w most l k = counting.IsShown t g v w l k ⊎ IsTurnShown t g v w most l k ⊎ IsWalkShown t g v w l k

@@ -1,0 +1,267 @@
+-- Walks: a loop each turn of which loads from, or stores to, the address where a pointer points, and moves the pointer on by less than any
+-- two areas are apart. What an access goes to is in an area, or the run goes no further (RISC-V Unprivileged ISA, "Load and Store
+-- Instructions": an access fault). So the pointer stays in one area, whatever it was at first, and the loop turns no more often than the
+-- longest area has steps. The pointer is a sum of multiples of two numbers, as a base and an index, each in a register or in a word of the
+-- stack. The code has to confirm edge by edge how values depend on both. Induction variables: Aho, Lam, Sethi and Ullman, Compilers,
+-- section 9.1.
+use Rattle.std.specs.Prelude.{◌≡◌, ◌≢◌, ℕ, ℤ, ◌+◌, ◌*◌, ◌/◌, ◌%◌, ◌^◌, ◌<◌, ◌≤◌, ◌⊎◌, ◌&&◌, nat_lt, Bool, true, false, Option, Some, None, if◌then◌else◌}
+use Rattle.scale_base.specs.declared.instruction.ImmOp.TheVariants.{Addi, Slli}
+use Rattle.scale_base.specs.declared.instruction.RegOp.TheVariants.{Add}
+use Rattle.scale_base.specs.declared.instruction.Instr.{Instr}
+use Rattle.scale_base.specs.declared.instruction.Instr.TheVariants.{Imm, Reg}
+use Rattle.scale_base.specs.Arith.{unsigned}
+use Rattle.scale_base.specs.State.{reg}
+use Rattle.cost_theory.specs.Graph.{Graph, Loops}
+use Rattle.code_text.specs.Text.{Text, instr_at}
+use Rattle.bound_laws.specs.Registers.{keeps}
+use Rattle.bound_laws.specs.Turning.{Leads, Calls}
+use Rattle.bound_laws.specs.Values.{Arc, IsHeld, ahead, arc, strided, sum_of, sum_with, scaled, negated_of, held, Covers, said, IsImpossible, IsRegister, Values, Steps}
+use Rattle.stack_laws.specs.Areas.{IsAccess}
+use Rattle.stack_laws.specs.Stacks.{Stacks, View, IsLoadedTo, IsStoredFrom, IsMissed, IsRestored, IsSafe}
+
+-- ---- values by two numbers
+
+-- A value by the two numbers that stood in the two places when the header was last come to: so many times each of them, and a number of an
+-- interval more, modulo 2^32.
+pub record Trace : Type 0 where
+  pub firsts : ℕ
+  pub seconds : ℕ
+  pub more : Option Arc
+
+abbrev pub traced : ℕ → ℕ → Option Arc → Option Trace
+traced firsts seconds more = Some (record { firsts = firsts; seconds = seconds; more = more })
+
+-- nothing is known where there is no trace
+abbrev pub IsTraced : Option Trace → (first second value : ℕ) → Type 0
+IsTraced None first second value = Unit {0}
+IsTraced (Some s) first second value =
+    (d : ℕ) × IsHeld s.more d × (value % 2 ^ 32 ≡ (s.firsts * first + s.seconds * second + d) % 2 ^ 32)
+
+-- this one says no more than the other
+abbrev pub IsWider : Option Trace → Option Trace → Type 0
+IsWider None other = Unit {0}
+IsWider (Some s) None = ⊥
+IsWider (Some s) (Some z) = (s.firsts ≡ z.firsts) × (s.seconds ≡ z.seconds) × Covers s.more z.more
+
+-- the sum with a number
+abbrev pub moved_by_number : Option Trace → ℕ → Option Trace
+moved_by_number None n = None
+moved_by_number (Some s) n = traced s.firsts s.seconds (sum_with s.more n)
+
+-- the sum of both
+abbrev pub sum_of_both : Option Trace → Option Trace → Option Trace
+sum_of_both None z = None
+sum_of_both (Some s) None = None
+sum_of_both (Some s) (Some z) = traced (s.firsts + z.firsts) (s.seconds + z.seconds) (sum_of s.more z.more)
+
+-- so many times the value
+abbrev pub multiplied : Option Trace → ℕ → Option Trace
+multiplied None n = None
+multiplied (Some s) n = traced (n * s.firsts) (n * s.seconds) (scaled n s.more)
+
+-- a value that depends on neither, by its interval
+abbrev pub by_interval : Option Arc → Option Trace
+by_interval None = None
+by_interval (Some i) = traced 0 0 (Some i)
+
+abbrev pub trace_or : Option Trace → Option Arc → Option Trace
+trace_or None i = by_interval i
+trace_or (Some s) i = Some s
+
+-- ---- certificates
+
+-- a register, or a word of the stack by its number
+pub data Place : Type 0 where
+  in_register : ℕ → Place
+  in_word : ℕ → Place
+
+abbrev pub number_in : Place → View → ℕ
+number_in (in_register r) x = reg x.regs r
+number_in (in_word k) x = x.words k
+
+-- Why a loop can't turn often. The pointer is so many times what stands in the first place and so many times what stands in the second one.
+pub record WalkCertificate : Type 0 where
+  pub first : Place
+  pub first_factor : ℕ
+  pub second : Place
+  pub second_factor : ℕ
+  -- each turn accesses memory so far behind the pointer of the turn's start, modulo 2^32
+  pub at : ℕ
+  -- each turn moves the pointer up, or down, by so much at least, and by so much more at most
+  pub down : Bool
+  pub least : ℕ
+  pub spread : ℕ
+  pub width : ℕ
+  -- intervals of addresses, by number, that hold the areas
+  pub ground : ℕ → Option Arc
+  -- the code of the loop, with its header
+  pub body : ℕ → Bool
+  -- by address, before the instruction there, and by register, or by number of a word of the stack
+  pub row : ℕ → ℕ → Option Trace
+  pub word : ℕ → ℕ → Option Trace
+  -- by address: memory was accessed there since the header was last come to
+  pub touched : ℕ → Bool
+  -- the code that runs while a call from the body is open
+  pub quiet : ℕ → Bool
+
+-- only x1 to x31 have traces
+abbrev pub row_of : WalkCertificate → ℕ → ℕ → Option Trace
+row_of c a r = if nat_lt 0 r && nat_lt r 32 then c.row a r else None
+
+-- what an instruction finds in a register
+abbrev pub operand : Values → WalkCertificate → ℕ → ℕ → Option Trace
+operand v c a r = trace_or (row_of c a r) (held (v.at a) r)
+
+-- the address of the access
+abbrev pub aim : WalkCertificate → Option Trace
+aim c = traced c.first_factor c.second_factor (Some (strided c.at 0 0))
+
+-- ---- over an edge of an instruction that is no call
+
+-- a register's trace behind the instruction at a: none, the one it had, by a sum, by a shift, or by a word that is loaded
+pub data IsRowOver (v : Values) (w : Stacks) (c : WalkCertificate) (a : ℕ) (i : Instr) (r : ℕ) (b : Option Trace) : Type 0 where
+  untraced : b ≡ None → IsRowOver v w c a i r b
+  kept : keeps r i ≡ true → IsWider b (c.row a r) → IsRowOver v w c a i r b
+  summed : (rs : ℕ) (imm : ℤ) → i ≡ Imm Addi r rs imm → IsWider b (moved_by_number (operand v c a rs) (unsigned imm)) →
+      IsRowOver v w c a i r b
+  added : (rs1 rs2 : ℕ) → i ≡ Reg Add r rs1 rs2 → IsWider b (sum_of_both (operand v c a rs1) (operand v c a rs2)) → IsRowOver v w c a i r b
+  shifted : (rs : ℕ) (imm : ℤ) → i ≡ Imm Slli r rs imm → IsWider b (multiplied (operand v c a rs) (2 ^ (unsigned imm % 32))) →
+      IsRowOver v w c a i r b
+  loaded : (k : ℕ) → IsLoadedTo w a i k r → IsWider b (c.word a k) → IsRowOver v w c a i r b
+
+-- a word's trace: none, the one it had, or that of a register that is stored
+pub data IsWordOver (v : Values) (w : Stacks) (c : WalkCertificate) (a : ℕ) (i : Instr) (k : ℕ) (b : Option Trace) : Type 0 where
+  untraced : b ≡ None → IsWordOver v w c a i k b
+  missed : IsMissed v w a i k → IsWider b (c.word a k) → IsWordOver v w c a i k b
+  stored : (r : ℕ) → IsStoredFrom w a i k r → IsWider b (operand v c a r) → IsWordOver v w c a i k b
+
+-- what is in a place behind it
+abbrev pub IsPlaceOver : Values → Stacks → WalkCertificate → ℕ → Instr → Place → Option Trace → Type 0
+IsPlaceOver v w c a i (in_register r) b = IsRegister r × IsRowOver v w c a i r b
+IsPlaceOver v w c a i (in_word k) b = IsWordOver v w c a i k b
+
+-- the instruction accesses memory where the pointer of the turn's start says
+pub record IsAimed (v : Values) (c : WalkCertificate) (a : ℕ) (i : Instr) : Type 0 where
+  pub register : ℕ
+  pub more : ℕ
+  pub access : IsAccess i register more
+  pub aims : IsWider (aim c) (moved_by_number (operand v c a register) more)
+
+-- so it did, or an instruction before it
+abbrev pub IsTouched : Values → WalkCertificate → ℕ → Instr → Type 0
+IsTouched v c a i = (c.touched a ≡ true) ⊎ IsAimed v c a i
+
+-- ---- behind a call at a to a function
+
+abbrev pub IsRowBack : Text → Values → Stacks → WalkCertificate → (a to r : ℕ) → Option Trace → Type 0
+IsRowBack t v w c a to r b = (b ≡ None) ⊎ (IsRestored t v w a to r × IsWider b (c.row a r))
+
+abbrev pub IsWordBack : Values → Stacks → WalkCertificate → (a to k : ℕ) → Option Trace → Type 0
+IsWordBack v w c a to k b = (b ≡ None) ⊎ (IsSafe v w a to k × IsWider b (c.word a k))
+
+abbrev pub IsPlaceBack : Text → Values → Stacks → WalkCertificate → (a to : ℕ) → Place → Option Trace → Type 0
+IsPlaceBack t v w c a to (in_register r) b = IsRegister r × IsRowBack t v w c a to r b
+IsPlaceBack t v w c a to (in_word k) b = IsWordBack v w c a to k b
+
+-- ---- a turn
+
+-- the pointer, by what stands in both places
+abbrev pub pointer : WalkCertificate → Option Trace → Option Trace → Option Trace
+pointer c first second = sum_of_both (multiplied first c.first_factor) (multiplied second c.second_factor)
+
+abbrev pub steps_of : Bool → Option Arc → Option Arc
+steps_of down i = if down then negated_of i else i
+
+-- it is a step behind the pointer of the turn's start, or before it
+abbrev pub IsMoved : WalkCertificate → Option Trace → Type 0
+IsMoved c None = ⊥
+IsMoved c (Some s) = (s.firsts ≡ c.first_factor) × (s.seconds ≡ c.second_factor) ×
+    Covers (Some (arc c.least c.spread)) (steps_of c.down s.more)
+
+-- a turn that the instruction at a ends, which is no call, and one that a call ends
+pub record IsTurnOver (v : Values) (w : Stacks) (c : WalkCertificate) (a : ℕ) (i : Instr) : Type 0 where
+  pub first : Option Trace
+  pub second : Option Trace
+  pub first_over : IsPlaceOver v w c a i c.first first
+  pub second_over : IsPlaceOver v w c a i c.second second
+  pub moved : IsMoved c (pointer c first second)
+  pub touched : IsTouched v c a i
+
+pub record IsTurnBack (t : Text) (v : Values) (w : Stacks) (c : WalkCertificate) (a to : ℕ) : Type 0 where
+  pub first : Option Trace
+  pub second : Option Trace
+  pub first_back : IsPlaceBack t v w c a to c.first first
+  pub second_back : IsPlaceBack t v w c a to c.second second
+  pub moved : IsMoved c (pointer c first second)
+  pub touched : c.touched a ≡ true
+
+-- ---- the ground
+
+-- The second interval is behind the first one by more than the gap, and doesn't come round to it.
+abbrev pub IsBeyond : Arc → Arc → (gap : ℕ) → Type 0
+IsBeyond x y gap = (x.more + gap < ahead x.low y.low) × (ahead x.low y.low + y.more < 2 ^ 32)
+
+-- The ground holds each area, and no step leads from one of its intervals to another one, or round to the same.
+pub record IsGround (areas : ℕ → Option Arc) (c : WalkCertificate) : Type 0 where
+  pub holds : (k : ℕ) (x : Arc) → areas k ≡ Some x → (j : ℕ) × (y : Arc) × (c.ground j ≡ Some y) × Covers (Some y) (Some x)
+  pub short : (k : ℕ) (x : Arc) → c.ground k ≡ Some x → (x.more + c.least ≤ c.width) × (x.more + (c.least + c.spread) < 2 ^ 32)
+  pub apart : (k j : ℕ) (x y : Arc) → c.ground k ≡ Some x → c.ground j ≡ Some y → (k ≡ j) ⊎ IsBeyond x y (c.least + c.spread)
+
+-- ---- a certificate
+
+-- no comparison says that no state comes this way
+abbrev pub IsPossible : Values → ℕ → Instr → ℕ → Type 0
+IsPossible v a i b = IsImpossible (said i a b) (v.at a) → ⊥
+
+-- at the header a place holds its own number
+abbrev pub IsBegun : WalkCertificate → Place → Option Trace → Type 0
+IsBegun c p b = (b ≡ None) ⊎ ((c.first ≡ p) × IsWider b (traced 1 0 (Some (strided 0 0 0)))) ⊎
+    ((c.second ≡ p) × IsWider b (traced 0 1 (Some (strided 0 0 0))))
+
+-- What the code has to say of a certificate for the loop with this header and this extent. Each clause is about one edge of the graph, or
+-- about two of one call.
+pub record IsWalkCertificate (t : Text) (g : Graph) (v : Values) (w : Stacks) (header : ℕ) (extent : ℕ → Bool) (c : WalkCertificate)
+    : Type 0 where
+  pub ground : IsGround w.areas c
+  -- the header is in the body, and begins it: nothing is known there but of both places
+  pub first : c.body header ≡ true
+  pub rows : (r : ℕ) → IsRegister r → IsBegun c (in_register r) (c.row header r)
+  pub words : (k : ℕ) → IsBegun c (in_word k) (c.word header k)
+  pub untouched : c.touched header ≡ false
+  -- the body is entered at its header alone, by edges, by calls and at the start of a run
+  pub entered : (a b : ℕ) → Leads g a b → v.live a ≡ true → c.body b ≡ true → b ≢ header → c.body a ≡ true
+  pub called : (a b : ℕ) → Calls g a b → v.live a ≡ true → c.body b ≡ true → b ≡ header
+  pub entry : c.body t.entry ≡ true → t.entry ≡ header
+  -- what is counted as a turn comes from the body
+  pub counts : (a : ℕ) → Leads g a header → v.live a ≡ true → extent a ≡ true → c.body a ≡ true
+  -- within the body each instruction keeps the traces, where a state may come
+  pub along : (a b r : ℕ) (i : Instr) → Steps g a b → v.live a ≡ true → c.body a ≡ true → c.body b ≡ true → b ≢ header →
+      instr_at t a ≡ Some i → IsPossible v a i b → IsRegister r → IsRowOver v w c a i r (c.row b r)
+  pub along_words : (a b k : ℕ) (i : Instr) → Steps g a b → v.live a ≡ true → c.body a ≡ true → c.body b ≡ true → b ≢ header →
+      instr_at t a ≡ Some i → IsPossible v a i b → IsWordOver v w c a i k (c.word b k)
+  pub along_touched : (a b : ℕ) (i : Instr) → Steps g a b → v.live a ≡ true → c.body a ≡ true → c.body b ≡ true → b ≢ header →
+      instr_at t a ≡ Some i → IsPossible v a i b → c.touched b ≡ true → IsTouched v c a i
+  -- and so does each call
+  pub back : (a to b r : ℕ) → Calls g a to → Leads g a b → v.live a ≡ true → c.body a ≡ true → c.body b ≡ true → b ≢ header →
+      IsRegister r → IsRowBack t v w c a to r (c.row b r)
+  pub back_words : (a to b k : ℕ) → Calls g a to → Leads g a b → v.live a ≡ true → c.body a ≡ true → c.body b ≡ true → b ≢ header →
+      IsWordBack v w c a to k (c.word b k)
+  pub back_touched : (a to b : ℕ) → Calls g a to → Leads g a b → v.live a ≡ true → c.body a ≡ true → c.body b ≡ true → b ≢ header →
+      c.touched b ≡ true → c.touched a ≡ true
+  -- each turn accesses memory where the pointer says, and moves the pointer on
+  pub turns : (a : ℕ) (i : Instr) → Steps g a header → v.live a ≡ true → c.body a ≡ true → instr_at t a ≡ Some i →
+      IsPossible v a i header → IsTurnOver v w c a i
+  pub turns_back : (a to : ℕ) → Calls g a to → Leads g a header → v.live a ≡ true → c.body a ≡ true → IsTurnBack t v w c a to
+  -- calls from the body go to quiet code
+  pub calls : (a b : ℕ) → Calls g a b → v.live a ≡ true → c.body a ≡ true → c.quiet b ≡ true
+  -- quiet code stays quiet along its edges and calls, and never comes to the header
+  pub quiet_along : (a b : ℕ) → Leads g a b → c.quiet a ≡ true → c.quiet b ≡ true
+  pub quiet_calls : (a b : ℕ) → Calls g a b → c.quiet a ≡ true → c.quiet b ≡ true
+  pub quiet_apart : c.quiet header ≡ false
+
+-- A bound of a loop that the code alone shows by a walk.
+pub record IsWalkShown (t : Text) (g : Graph) (v : Values) (w : Stacks) (l : Loops) (k : ℕ) : Type 0 where
+  pub certificate : WalkCertificate
+  pub is : IsWalkCertificate t g v w (l.header k) (l.inside k) certificate
+  pub positive : 0 < certificate.least
+  pub enough : certificate.width / certificate.least ≤ l.bound k
