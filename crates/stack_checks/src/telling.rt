@@ -16,7 +16,9 @@ ghost use Rattle.stack_checks.specs.Checked.{IsComparedAlong, IsHandedAlong, IsH
 use crate::ways::{Way, held_on, is_left, is_within, passed_on};
 use scale_base::{BranchOp, ImmOp, Instr, RegOp};
 use stack_tables::{StackClaim, Told, held_at, told};
-use wrapped_intervals::{Arc, ahead, covers, exactly, first_by, keeps, second_by, sum_with};
+use wrapped_intervals::{
+    Arc, ahead, covers, exactly, first_by, keeps, opposite_of, second_by, sum_with,
+};
 
 // ---- comparisons
 
@@ -48,7 +50,18 @@ fn imm_test(op: ImmOp) -> Option<BranchOp>
     match op {
         ImmOp::Slti => Some(BranchOp::Blt),
         ImmOp::Sltiu => Some(BranchOp::Bltu),
+        ImmOp::Addi | ImmOp::Xori => Some(BranchOp::Bne),
         _ => None,
+    }
+}
+
+// The word with which an operation with a number compares.
+fn compared_with(op: ImmOp, n: u32) -> u64
+    ensures { result ≡ telling.compared_with op n }
+{
+    match op {
+        ImmOp::Addi => opposite_of(u64::from(n)),
+        _ => u64::from(n),
     }
 }
 
@@ -59,12 +72,13 @@ fn reg_test(op: RegOp) -> Option<BranchOp>
     match op {
         RegOp::Slt => Some(BranchOp::Blt),
         RegOp::Sltu => Some(BranchOp::Bltu),
+        RegOp::Sub | RegOp::Xor => Some(BranchOp::Bne),
         _ => None,
     }
 }
 
 // Whether what is told holds the numbers of the register that compare so with a number.
-fn is_told_by_number(way: &Way<'_>, y: &Told, test: BranchOp, n: u32) -> bool
+fn is_told_by_number(way: &Way<'_>, y: &Told, test: BranchOp, n: u64) -> bool
     requires way { IsWay way.now }
     requires told { IsToldKept y.now }
     ensures { result ≡ true → values.Covers (Some y.now.arc) (values.first_by (telling.test_where y.now.zero test)
@@ -75,7 +89,7 @@ fn is_told_by_number(way: &Way<'_>, y: &Told, test: BranchOp, n: u32) -> bool
         first_by(
             test_where(y.zero, test),
             held_at(way.claim, way.from, y.about),
-            exactly(u64::from(n)),
+            exactly(n),
         ),
     )
 }
@@ -124,7 +138,7 @@ fn is_number_compared(way: &Way<'_>, y: &Told, op: ImmOp, n: i32) -> bool
     ensures { result ≡ true → IsComparedAlong way.now y.now }
 {
     match imm_test(op) {
-        Some(test) => is_told_by_number(way, y, test, n.cast_unsigned()),
+        Some(test) => { is_told_by_number(way, y, test, compared_with(op, n.cast_unsigned())) }
         None => false,
     }
 }
