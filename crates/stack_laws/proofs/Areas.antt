@@ -83,13 +83,15 @@ module _ (env : Setting) (keyless : env.layout.keyed ≡ None) (s : State) (i : 
     performed : (j : Instr) → i ≡ j → (performs env s i j).end ≡ Went x
     performed j e = subst (λ j. (performs env s i j).end ≡ Went x) e (step_of (λ o. o.end ≡ Went x → (performs env s i i).end ≡ Went x) env s i here (λ end. end) (λ end. let bad : ⊥ = cc in absurd bad) went)
 
-    usable : (r more : ℕ) → IsAccess i r more → IsUsable (plus (reg s.regs r) more)
+    -- an access of a step that goes on is to a byte that may be read or written
+    pub usable : (r more : ℕ) → IsAccess i r more → IsUsable (plus (reg s.regs r) more)
     usable r more (by_load op rd offset e m) = subst (λ n. IsUsable (plus (reg s.regs r) n)) m (load_usable op rd (moved_by (reg s.regs r) offset) x (performed (Load op rd r offset) e))
     usable r more (by_store op rs2 offset e m) = subst (λ n. IsUsable (plus (reg s.regs r) n)) m (store_usable op (moved_by (reg s.regs r) offset) (reg s.regs rs2) x (performed (Store op r rs2 offset) e))
 
 -- ---- what is in an area and in an interval
 
-disjoint : (low more from many n : ℕ) → low < 2 ^ 32 → from < 2 ^ 32 → n < 2 ^ 32 → (n + (2 ^ 32 - low)) % 2 ^ 32 ≤ more → (n + (2 ^ 32 - from)) % 2 ^ 32 ≤ many → more < (from + (2 ^ 32 - low)) % 2 ^ 32 → (from + (2 ^ 32 - low)) % 2 ^ 32 + many < 2 ^ 32 → ⊥
+-- no number is in both of two intervals of which neither reaches the other one
+pub disjoint : (low more from many n : ℕ) → low < 2 ^ 32 → from < 2 ^ 32 → n < 2 ^ 32 → (n + (2 ^ 32 - low)) % 2 ^ 32 ≤ more → (n + (2 ^ 32 - from)) % 2 ^ 32 ≤ many → more < (from + (2 ^ 32 - low)) % 2 ^ 32 → (from + (2 ^ 32 - low)) % 2 ^ 32 + many < 2 ^ 32 → ⊥
 disjoint low more from many n a b c d e f g = let bad : ⊥ = omega arith in bad
 
 apart : (i : Option Arc) (x : Arc) (n : ℕ) → IsHeld i n → IsIn x n → AreDisjoint i x → ⊥

@@ -5,3 +5,4 @@ pub use Rattle.stack_laws.proofs.Counts.{stacks_bound_turns}
 pub use Rattle.stack_laws.proofs.Runs.{Holds, Returned, over_holds, call_holds, back_holds}
 pub use Rattle.stack_laws.proofs.Stepping.{gets, puts, misses}
 pub use Rattle.stack_laws.proofs.Cells.{one_byte, two_bytes, four_bytes}
+pub use Rattle.stack_laws.proofs.Areas.{usable, disjoint}

@@ -3,6 +3,7 @@ use Rattle.std.proofs.Common.{◌≡◌, ℕ, ◌+◌, ◌-◌, ◌*◌, ◌<◌
 use Rattle.std.proofs.Math.Nat.{add-mul}
 use Rattle.bound_laws.specs.Values.{Arc, IsIn, ahead}
 use Rattle.bound_laws.proofs.Laws.{in_covers}
+use Rattle.stack_laws.proofs.Laws.{disjoint}
 use Rattle.walk_areas.specs.Walking.{WalkCertificate, IsBeyond, IsGround}
 
 -- so much of the interval is behind the address, by the way of the walk
@@ -25,9 +26,6 @@ pub record IsHere (c : WalkCertificate) (at n : ℕ) : Type 0 where
 moved_ahead : (low more a b s gap : ℕ) → low < 2 ^ 32 → a < 2 ^ 32 → (a + (2 ^ 32 - low)) % 2 ^ 32 ≤ more → b ≡ (a + s) % 2 ^ 32 → s ≤ gap → more + gap < 2 ^ 32 →
     (b + (2 ^ 32 - low)) % 2 ^ 32 ≡ (a + (2 ^ 32 - low)) % 2 ^ 32 + s
 moved_ahead low more a b s gap l w near e le less = omega arith
-
-disjoint : (low more from many n : ℕ) → low < 2 ^ 32 → from < 2 ^ 32 → n < 2 ^ 32 → (n + (2 ^ 32 - low)) % 2 ^ 32 ≤ more → (n + (2 ^ 32 - from)) % 2 ^ 32 ≤ many → more < (from + (2 ^ 32 - low)) % 2 ^ 32 → (from + (2 ^ 32 - low)) % 2 ^ 32 + many < 2 ^ 32 → ⊥
-disjoint low more from many n a b c d e f g = let bad : ⊥ = omega arith in bad
 
 -- a step up leads to no interval that is beyond
 no_way : (x y : Arc) (a b s gap : ℕ) → IsIn x a → IsIn y b → b ≡ (a + s) % 2 ^ 32 → s ≤ gap → x.more + gap < 2 ^ 32 → IsBeyond x y gap → ⊥

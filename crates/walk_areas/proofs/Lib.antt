@@ -1,6 +1,5 @@
 mod Traces
 mod Grounds
-mod Accesses
 mod Facts
 mod Turns
 mod Steps
