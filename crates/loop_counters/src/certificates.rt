@@ -179,6 +179,7 @@ fn certificate_of(
         offset: turns.offset,
         quiet,
         turns: None,
+        walk: None,
     })
 }
 
@@ -204,6 +205,7 @@ fn certificate_by(alloc: Global, table: TurnTable) -> StackCertificate {
         offset: Vec::new(alloc),
         quiet: Vec::new(alloc),
         turns: Some(table),
+        walk: None,
     }
 }
 

@@ -220,11 +220,14 @@ fn body_of(certificate: &StackCertificate) -> &[bool] {
 }
 
 /// Whether a loop with this header and this certificate turns as often each time it is entered, as the tables have it: its counter has one value where it is
-/// entered, and one where it is left. Where that is what is left of the input, it doesn't.
+/// entered, and one where it is left. Where that is what is left of the input, or where it walks through memory, it doesn't.
 pub fn is_exact(claim: &StackClaim<'_>, header: usize, certificate: &StackCertificate) -> bool
     requires { IsStackClaim claim.now }
 {
-    if counts_input(certificate) || begins_function(claim.graph, header) {
+    if counts_input(certificate) || certificate.walk.is_some() {
+        return false;
+    }
+    if begins_function(claim.graph, header) {
         return false;
     }
     let looped = Looped {

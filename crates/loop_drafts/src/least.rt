@@ -39,7 +39,8 @@ fn code_of(certificate: &StackCertificate) -> (&[bool], &[bool]) {
     }
 }
 
-// What is found of a noted loop, by a certificate of its bound. Of turns that are counted in the input nothing is: that may end at once.
+// What is found of a noted loop, by a certificate of its bound. Of turns that are counted in the input, or that walk through memory,
+// nothing is: those may end at once.
 fn find(
     alloc: Global,
     claim: &StackClaim<'_>,
@@ -48,7 +49,7 @@ fn find(
 ) -> Result<Option<LowerFound>, NoMemory>
     requires { IsStackClaim claim.now }
 {
-    if counts_input(certificate) {
+    if counts_input(certificate) || certificate.walk.is_some() {
         return Ok(None);
     }
     let Some(header) = claim.graph.find(note.header) else {

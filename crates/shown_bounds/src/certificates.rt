@@ -7,6 +7,7 @@ use crate::counters::StackCounter;
 use loop_file::LoopNote;
 use stack_tables::StackClaim;
 use turn_checks::TurnTable;
+use walk_checks::WalkTable;
 
 /// Why a loop can't turn often: at its header the counter is at most `width`, and each turn raises it by `least` at least. By node: whether it
 /// is code of the loop, what its instruction adds and what those from the header up to it have added, modulo 2^32, and whether it may run
@@ -22,6 +23,8 @@ pub struct StackCertificate {
     pub quiet: Vec<bool>,
     /// What each turn does, where that is why: then nothing stands beside nodes here.
     pub turns: Option<TurnTable>,
+    /// A walk through memory, where that is why, likewise.
+    pub walk: Option<WalkTable>,
 }
 
 /// A certificate for a noted loop of a program with its tables, and the number of the header's node.

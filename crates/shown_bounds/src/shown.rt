@@ -18,6 +18,7 @@ use flow_graph::CodeGraph;
 use loop_file::LoopNote;
 use stack_tables::StackClaim;
 use turn_checks::is_turn_shown;
+use walk_checks::is_walk_shown;
 
 // Whether the least fits into the width no more often than the bound says.
 fn is_enough(note: &LoopNote, certificate: &StackCertificate) -> bool
@@ -78,8 +79,9 @@ pub fn is_shown(
     ensures { result ≡ true → (notes : List LoopNote) (k : ℕ) → note_at notes k ≡ note.now →
         IsShown (text_of claim.now.view.now) (text_graph (text_of claim.now.view.now) claim.now.graph.now.code) (values_of claim.now.graph.now.code claim.now.table.now) (stacks_of claim.now.graph.now.code claim.now.stack.now) most (noted_loops notes) k }
 {
-    match &certificate.turns {
-        Some(table) => is_turn_shown(claim, note, table, most),
-        None => is_counted(claim, note, certificate),
+    match (&certificate.walk, &certificate.turns) {
+        (Some(table), _) => is_walk_shown(claim, note, table),
+        (None, Some(table)) => is_turn_shown(claim, note, table, most),
+        (None, None) => is_counted(claim, note, certificate),
     }
 }

@@ -1,0 +1,187 @@
+//! Bounds that the code shows by a walk through memory.
+
+ghost use Rattle.std.specs.Prelude.{◌≡◌, ◌≤◌, ◌<◌, ◌/◌, ℕ, List, length, true};
+ghost use Rattle.bound_laws.specs.Values.{IsRegister};
+ghost use Rattle.code_text.specs.Text.{text_of};
+ghost use Rattle.code_text.specs.TextGraph.{text_graph};
+ghost use Rattle.loop_file.specs.declared.notes.LoopNote.{LoopNote};
+ghost use Rattle.loop_file.specs.Kept.{note_at, noted_loops};
+ghost use Rattle.value_checks.specs.Tables.{values_of};
+ghost use Rattle.stack_tables.specs.Tables.{stacks_in, stacks_of, IsStackClaim};
+ghost use Rattle.walk_areas.specs.Walking as walking;
+ghost use Rattle.walk_areas.specs.Walking.Place.{in_register, in_word};
+ghost use Rattle.walk_checks.specs.Walked.{at_of, cert, certificate_of, place_view, traced_view, AreEdgesWalked, AreWalks, IsEntrySo, IsHeaderSo, IsWalkCase};
+
+use crate::edges::is_edge_walked;
+use crate::ground::is_ground;
+use crate::rows::{is_body, is_quiet, is_touched, row_at, words_at};
+use crate::tables::{Trace, WalkCase, WalkPlace, WalkTable};
+use crate::traces::{Found, is_wider_trace};
+use flow_graph::CodeGraph;
+use loop_file::LoopNote;
+use stack_tables::StackClaim;
+use wrapped_intervals::Arc;
+
+// Whether a table has an entry for each node.
+fn has_entries(graph: &CodeGraph, table: &WalkTable) -> bool
+    ensures { result ≡ true → AreWalks graph.now.code.nodes table.now }
+{
+    let nodes = graph.node_count();
+    table.body.len() == nodes
+        && table.rows.len() == nodes
+        && table.words.len() == nodes
+        && table.touched.len() == nodes
+        && table.quiet.len() == nodes
+}
+
+// Whether the least fits into the width no more often than the bound says.
+fn is_enough(note: &LoopNote, table: &WalkTable) -> bool
+    ensures { result ≡ true → (0 < table.now.least) × (table.now.width / table.now.least ≤ note.now.bound) }
+{
+    if table.least == 0 {
+        return false;
+    }
+    table.width / table.least <= note.bound
+}
+
+// Whether two places are the same.
+fn is_same_place(p: WalkPlace, q: WalkPlace) -> bool
+    ensures { result ≡ true → place_view p ≡ place_view q }
+{
+    match (p, q) {
+        (WalkPlace::Register(r), WalkPlace::Register(s)) => r == s,
+        (WalkPlace::Word(k), WalkPlace::Word(j)) => k == j,
+        _ => false,
+    }
+}
+
+// The trace of a number itself.
+fn itself(firsts: u64, seconds: u64) -> Found {
+    Found {
+        firsts,
+        seconds,
+        more: Some(Arc::strided(0, 0, 0)),
+    }
+}
+
+// Whether nothing is known of a place at the header, or that it has its own number.
+fn is_begun(table: &WalkTable, place: WalkPlace, b: Option<Trace>) -> bool
+    ensures { result ≡ true → (nodes : List ℕ) → walking.IsBegun (certificate_of nodes table.now) (place_view place) (traced_view b) }
+{
+    if b.is_none() {
+        return true;
+    }
+    if is_same_place(table.first, place) && is_wider_trace(b, itself(1, 0)) {
+        return true;
+    }
+    is_same_place(table.second, place) && is_wider_trace(b, itself(0, 1))
+}
+
+// The same of each register.
+fn are_rows_begun(case: &WalkCase<'_>) -> bool
+    requires case { IsWalkCase case.now }
+    ensures { result ≡ true → (r : ℕ) → IsRegister r → walking.IsBegun (cert case.now) (in_register r)
+        ((cert case.now).row (at_of case.now case.now.header) r) }
+{
+    for r in 1..32u8 {
+        if !is_begun(
+            case.table,
+            WalkPlace::Register(r),
+            row_at(case, case.header, r),
+        ) {
+            return false;
+        }
+    }
+    true
+}
+
+// And of each word.
+fn are_words_begun(case: &WalkCase<'_>) -> bool
+    requires case { IsWalkCase case.now }
+    ensures { result ≡ true → (k : ℕ) → walking.IsBegun (cert case.now) (in_word k)
+        ((cert case.now).word (at_of case.now case.now.header) k) }
+{
+    for word in words_at(case, case.header) {
+        if !is_begun(case.table, WalkPlace::Word(word.number), Some(word.trace)) {
+            return false;
+        }
+    }
+    true
+}
+
+// What the code says of the header.
+fn is_header_so(case: &WalkCase<'_>) -> bool
+    requires case { IsWalkCase case.now }
+    ensures { result ≡ true → IsHeaderSo (cert case.now) (at_of case.now case.now.header) }
+{
+    if !are_rows_begun(case) {
+        return false;
+    }
+    if !are_words_begun(case) {
+        return false;
+    }
+    if !is_body(case, case.header) {
+        return false;
+    }
+    if is_touched(case, case.header) {
+        return false;
+    }
+    !is_quiet(case, case.header)
+}
+
+// What it says of the start of a run.
+fn is_entry_so(case: &WalkCase<'_>) -> bool
+    requires case { IsWalkCase case.now }
+    ensures { result ≡ true → IsEntrySo case.now }
+{
+    match case.claim.graph.find(case.claim.view.entry()) {
+        Some(k) => !is_body(case, k) || k == case.header,
+        None => false,
+    }
+}
+
+// What it says of each edge.
+fn are_edges_walked(case: &WalkCase<'_>) -> bool
+    requires case { IsWalkCase case.now }
+    ensures { result ≡ true → AreEdgesWalked case.now }
+{
+    for e in 0..case.claim.graph.edge_count() {
+        if !is_edge_walked(case, e) {
+            return false;
+        }
+    }
+    true
+}
+
+/// Whether the code shows the bound of a loop's note, by a table of a walk. A ground of more than 16 intervals is refused.
+pub fn is_walk_shown(claim: &StackClaim<'_>, note: &LoopNote, table: &WalkTable) -> bool
+    requires { IsStackClaim claim.now }
+    ensures { result ≡ true → (notes : List LoopNote) (k : ℕ) → note_at notes k ≡ note.now →
+        walking.IsWalkShown (text_of claim.now.view.now) (text_graph (text_of claim.now.view.now) claim.now.graph.now.code) (values_of claim.now.graph.now.code claim.now.table.now) (stacks_of claim.now.graph.now.code claim.now.stack.now) (noted_loops notes) k }
+{
+    let Some(header) = claim.graph.find(note.header) else {
+        return false;
+    };
+    if !has_entries(claim.graph, table) {
+        return false;
+    }
+    let case = WalkCase {
+        claim,
+        note,
+        header,
+        table,
+    };
+    if !is_header_so(&case) {
+        return false;
+    }
+    if !is_entry_so(&case) {
+        return false;
+    }
+    if !is_enough(note, table) {
+        return false;
+    }
+    if !is_ground(claim, table) {
+        return false;
+    }
+    are_edges_walked(&case)
+}

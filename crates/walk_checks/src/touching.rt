@@ -1,0 +1,70 @@
+//! Whether memory was accessed where the pointer points.
+
+ghost use Rattle.std.specs.Prelude.{◌≡◌, ◌<◌, ℕ, List, length, true, IfSome};
+ghost use Rattle.stack_laws.specs.Areas.{IsAccess};
+ghost use Rattle.stack_tables.specs.Tables.{values_in};
+ghost use Rattle.wrapped_intervals.specs.Small.{IsFoundOr};
+ghost use Rattle.walk_areas.specs.Walking as walking;
+ghost use Rattle.walk_checks.specs.Walked.{at_of, cert, certificate_of, found_view, IsWalkCase};
+
+use crate::rows::{is_touched, operand};
+use crate::tables::{WalkCase, WalkTable};
+use crate::traces::{Found, is_wider, moved};
+use scale_base::Instr;
+use wrapped_intervals::Arc;
+
+// The register through which an instruction loads or stores, and how far from what it holds, modulo 2^32.
+fn access_of(i: Instr) -> Option<(u8, u32)>
+    ensures { IfSome result (λ p. IsAccess i p.0 p.1) }
+{
+    match i {
+        Instr::Load {
+            op: _,
+            rd: _,
+            rs1,
+            offset,
+        } => Some((rs1, offset.cast_unsigned())),
+        Instr::Store {
+            op: _,
+            rs1,
+            rs2: _,
+            offset,
+        } => Some((rs1, offset.cast_unsigned())),
+        _ => None,
+    }
+}
+
+// The address of the access.
+fn aim(table: &WalkTable) -> Found
+    ensures { (nodes : List ℕ) → found_view result ≡ walking.aim (certificate_of nodes table.now) }
+{
+    Found {
+        firsts: u64::from(table.first_factor),
+        seconds: u64::from(table.second_factor),
+        more: Some(Arc::strided(u64::from(table.at), 0, 0)),
+    }
+}
+
+// Whether the instruction of node k accesses memory there.
+fn is_aimed(case: &WalkCase<'_>, i: Instr, k: usize) -> bool
+    requires case { IsWalkCase case.now }
+    requires from { k < length case.now.claim.now.graph.now.code.nodes }
+    ensures { result ≡ true → walking.IsAimed (values_in case.now.claim.now) (cert case.now) (at_of case.now k) i }
+{
+    let Some((register, more)) = access_of(i) else {
+        return false;
+    };
+    match operand(case, k, register) {
+        Some(z) => is_wider(aim(case.table), moved(z, more)),
+        None => false,
+    }
+}
+
+/// Whether it does, or an instruction before it.
+pub fn is_touched_over(case: &WalkCase<'_>, i: Instr, k: usize) -> bool
+    requires case { IsWalkCase case.now }
+    requires from { k < length case.now.claim.now.graph.now.code.nodes }
+    ensures { result ≡ true → walking.IsTouched (values_in case.now.claim.now) (cert case.now) (at_of case.now k) i }
+{
+    is_touched(case, k) || is_aimed(case, i, k)
+}
