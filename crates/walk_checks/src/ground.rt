@@ -16,13 +16,13 @@ use wrapped_intervals::{Arc, ahead, covers, is_kept};
 const WORDS: u64 = 4_294_967_296;
 
 // Whether one of the intervals holds an area.
-fn is_held(ground: &[Arc], area: Arc) -> bool
-    requires ground { All IsKept ground.now }
+fn is_held(intervals: &[Arc], area: Arc) -> bool
+    requires intervals { All IsKept intervals.now }
     requires area { IsKept area }
-    ensures { result ≡ true → IsHeldBy ground.now area }
+    ensures { result ≡ true → IsHeldBy intervals.now area }
 {
-    for j in 0..ground.len() {
-        if covers(Some(ground[j]), Some(area)) {
+    for j in 0..intervals.len() {
+        if covers(Some(intervals[j]), Some(area)) {
             return true;
         }
     }
@@ -30,13 +30,13 @@ fn is_held(ground: &[Arc], area: Arc) -> bool
 }
 
 // The same of each area.
-fn are_held(ground: &[Arc], areas: &[Arc]) -> bool
-    requires ground { All IsKept ground.now }
+fn are_held(intervals: &[Arc], areas: &[Arc]) -> bool
+    requires intervals { All IsKept intervals.now }
     requires areas { All IsKept areas.now }
-    ensures { result ≡ true → All (λ (x : values.Arc). IsHeldBy ground.now x) areas.now }
+    ensures { result ≡ true → All (λ (x : values.Arc). IsHeldBy intervals.now x) areas.now }
 {
     for area in areas {
-        if !is_held(ground, *area) {
+        if !is_held(intervals, *area) {
             return false;
         }
     }
@@ -82,7 +82,7 @@ fn is_beyond(table: &WalkTable, x: Arc, y: Arc) -> bool
 
 // The same of each other one.
 fn is_apart(table: &WalkTable, k: usize, x: Arc) -> bool
-    requires ground { All IsKept table.now.ground.items }
+    requires intervals { All IsKept table.now.ground.items }
     requires x { IsKept x }
     ensures { result ≡ true → IsApartFrom table.now k x }
 {

@@ -1,7 +1,6 @@
 //! Traces of values, and what sums and multiples make of them.
 
-ghost use Rattle.std.specs.Prelude.{◌≡◌, ◌×◌, IfSome, Some, true};
-ghost use Rattle.scale_base.specs.Arith as arith;
+ghost use Rattle.std.specs.Prelude.{◌≡◌, IfSome, Some, true};
 ghost use Rattle.wrapped_intervals.specs.Small.{IsFoundOr, IsKeptOr};
 ghost use Rattle.walk_areas.specs.Walking as walking;
 ghost use Rattle.walk_checks.specs.Walked.{found_view, trace_view, traced_view};
