@@ -4,8 +4,10 @@ ghost use Rattle.std.specs.Prelude.{◌<◌};
 
 use crate::areas::access_of;
 use crate::forms::{Forms, difference};
+use crate::passing::is_restorable;
 use crate::program::Program;
-use crate::ways::WayKind;
+use crate::ways::{Way, WayKind};
+use loop_forest::LoopTree;
 use scale_base::{ImmOp, Instr, NoMemory, RegOp};
 use std::alloc::Global;
 use wrapped_intervals::{Measure, effect, keeps};
@@ -52,16 +54,44 @@ fn copies_of(i: Instr) -> [Option<Copied>; 2] {
     }
 }
 
-// Whether several ways lead to a node.
-fn is_join(program: &Program, k: usize) -> bool {
-    match program.last_way_to(k).and_then(|w| program.way(w)) {
-        Some(way) => way.beside.is_some(),
-        None => false,
+/// By node, the number of the copy behind which it was found last, and whether a loop begins there.
+#[derive(Drop)]
+struct Seen {
+    numbers: Vec<usize>,
+    begins_loop: Vec<bool>,
+}
+
+impl Seen {
+    fn new(alloc: Global, nodes: usize, tree: &LoopTree) -> Result<Seen, NoMemory> {
+        let mut begins_loop = vec![in alloc; false; nodes]?;
+        for l in 0..tree.loop_count() {
+            let header = tree.header(l);
+            if header < begins_loop.len() {
+                begins_loop[header] = true;
+            }
+        }
+        Ok(Seen {
+            numbers: vec![in alloc; 0usize; nodes]?,
+            begins_loop,
+        })
+    }
+
+    // Finds a node behind a copy. Whether it wasn't found there before.
+    fn find(&mut self, k: usize, number: usize) -> bool {
+        if k >= self.numbers.len() || self.numbers[k] == number {
+            return false;
+        }
+        self.numbers[k] = number;
+        true
+    }
+
+    fn is_loop(&self, k: usize) -> bool {
+        self.begins_loop.get(k).copied().unwrap_or(true)
     }
 }
 
 /// The nodes behind a copy, which has a number of its own, as they are found, up to how many of them there is a test of the register that is copied, and of the copy;
-/// and whether ways have met, from where on neither register may be moved on: the distance of both would grow in a loop.
+/// and whether a loop has begun, from where on neither register may be moved on: the distance of both would grow there.
 #[derive(Drop)]
 struct Behind {
     copy: Copied,
@@ -69,16 +99,24 @@ struct Behind {
     nodes: Vec<usize>,
     tested_from: usize,
     tested_to: usize,
-    joined: bool,
+    looped: bool,
 }
 
 impl Behind {
-    fn add(&mut self, seen: &mut [usize], k: usize) -> Result<(), NoMemory> {
-        if k < seen.len() && seen[k] != self.number && self.nodes.len() < MOST_NODES {
-            seen[k] = self.number;
+    fn add(&mut self, seen: &mut Seen, k: usize) -> Result<(), NoMemory> {
+        if self.nodes.len() < MOST_NODES && seen.find(k, self.number) {
             self.nodes.push(k)?;
         }
         Ok(())
+    }
+
+    // Whether the copy is left over a way: behind a call, where both registers are those that functions give back.
+    fn is_left_over(&self, way: &Way) -> bool {
+        match way.kind {
+            WayKind::Step => true,
+            WayKind::Back(_) => is_restorable(self.copy.to) && is_restorable(self.copy.from),
+            _ => false,
+        }
     }
 
     // Notes a test at the node of a place.
@@ -122,19 +160,19 @@ impl Behind {
         }
     }
 
-    // Whether an instruction makes something else of one of both registers, or moves it on where ways have met.
+    // Whether an instruction makes something else of one of both registers, or moves it on in a loop.
     fn is_end(&self, i: Instr) -> bool {
         if keeps(self.copy.from, i) && keeps(self.copy.to, i) {
             return false;
         }
-        self.joined || effect(difference(self.copy.to, self.copy.from), i).is_none()
+        self.looped || effect(difference(self.copy.to, self.copy.from), i).is_none()
     }
 
     // Looks at the node of a place.
     fn look_at(
         &mut self,
         program: &Program,
-        seen: &mut [usize],
+        seen: &mut Seen,
         place: usize,
     ) -> Result<(), NoMemory> {
         let Some(k) = self.nodes.get(place).copied() else {
@@ -145,13 +183,13 @@ impl Behind {
         };
         self.note_test(node.instr, place);
         self.note_overwriting(node.instr, place);
-        self.joined = self.joined || is_join(program, k);
+        self.looped = self.looped || seen.is_loop(k);
         if self.is_end(node.instr) {
             return Ok(());
         }
         for w in node.first..node.end {
             if let Some(way) = program.way(w) {
-                if let WayKind::Step = way.kind {
+                if self.is_left_over(&way) {
                     self.add(seen, way.to)?;
                 }
             }
@@ -186,7 +224,7 @@ impl Behind {
 fn add_copy(
     forms: &mut Forms,
     program: &Program,
-    seen: &mut [usize],
+    seen: &mut Seen,
     k: usize,
     behind: &mut Behind,
 ) -> Result<(), NoMemory> {
@@ -204,7 +242,7 @@ fn add_copies_at(
     alloc: Global,
     forms: &mut Forms,
     program: &Program,
-    seen: &mut [usize],
+    seen: &mut Seen,
     k: usize,
 ) -> Result<(), NoMemory> {
     let Some(node) = program.node(k) else {
@@ -220,7 +258,7 @@ fn add_copies_at(
                 nodes: Vec::new(alloc),
                 tested_from: 0,
                 tested_to: 0,
-                joined: false,
+                looped: false,
             };
             add_copy(forms, program, seen, k, &mut behind)?;
         }
@@ -270,8 +308,13 @@ pub fn add_differences(forms: &mut Forms, program: &Program) -> Result<(), NoMem
 }
 
 /// Looks for the forms of copies.
-pub fn add_copies(alloc: Global, forms: &mut Forms, program: &Program) -> Result<(), NoMemory> {
-    let mut seen = vec![in alloc; 0usize; program.nodes.len()]?;
+pub fn add_copies(
+    alloc: Global,
+    forms: &mut Forms,
+    program: &Program,
+    tree: &LoopTree,
+) -> Result<(), NoMemory> {
+    let mut seen = Seen::new(alloc, program.nodes.len(), tree)?;
     for k in 0..program.nodes.len() {
         if forms.forms.len() < MOST_COPIES {
             add_copies_at(alloc, forms, program, &mut seen, k)?;

@@ -133,7 +133,7 @@ fn find_states(
 fn forms_of(alloc: Global, program: &Program, tree: &LoopTree) -> Result<Forms, NoMemory> {
     let mut forms = Forms::new(alloc, program.nodes.len())?;
     add_loops(alloc, &mut forms, program, tree)?;
-    add_copies(alloc, &mut forms, program)?;
+    add_copies(alloc, &mut forms, program, tree)?;
     add_differences(&mut forms, program)?;
     forms.divided = Divided::of(alloc, program, tree)?;
     Ok(forms)

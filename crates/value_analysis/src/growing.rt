@@ -20,7 +20,7 @@ use crate::rows::{put_row, starting_row, unknown, zeros};
 use crate::states::{Facts, State, WORD_COUNT, facts_of};
 use crate::stores::arc_of;
 use crate::tables::Row;
-use crate::telling::{Telling, comparison_of, put_told, untold_nodes};
+use crate::telling::{Comparison, Telling, asked_nodes, comparison_of, put_told, untold_nodes};
 use crate::thresholds::{Limit, Threshold, add_ends, add_limit};
 use crate::ways::{Way, WayKind};
 use elf_image::ImageView;
@@ -113,6 +113,8 @@ pub struct Growth<'a> {
     places: Vec<usize>,
     /// By node, whether nothing is told of registers there.
     untold: Vec<bool>,
+    /// By node, whether its instruction's difference tells.
+    asked: Vec<bool>,
     pub order: Vec<usize>,
     /// By node.
     counts: Vec<Counts>,
@@ -155,6 +157,7 @@ impl<'a> Growth<'a> {
             areas: areas_of(alloc, view)?,
             live: vec![in alloc; false; nodes]?,
             untold: untold_nodes(alloc, program, &places)?,
+            asked: asked_nodes(alloc, program)?,
             places,
             order,
             thresholds: no_thresholds(alloc, functions)?,
@@ -171,6 +174,12 @@ impl<'a> Growth<'a> {
     /// Whether a state may be at a node.
     pub fn is_live(&self, k: usize) -> bool {
         self.live.get(k).copied().unwrap_or(false)
+    }
+
+    // What a node's instruction compares.
+    fn comparison(&self, k: usize) -> Option<Comparison> {
+        let node = self.program.node(k)?;
+        comparison_of(node.instr, self.asked.get(k).copied().unwrap_or(false))
     }
 
     /// Whether there is no time for more.
@@ -260,6 +269,7 @@ impl<'a> Growth<'a> {
         if !self.untold.get(way.to).copied().unwrap_or(true) {
             let telling = Telling {
                 step,
+                comparison: self.comparison(way.from),
                 from,
                 passed: &to.row,
             };
@@ -533,7 +543,7 @@ impl<'a> Growth<'a> {
 
     // Takes the numbers with which an instruction that is no branch compares registers as thresholds.
     fn note_truth(&mut self, node: &Node, k: usize) -> Result<(), NoMemory> {
-        let (Some(comparison), Some(facts)) = (comparison_of(node.instr), self.facts.get(k)) else {
+        let (Some(comparison), Some(facts)) = (self.comparison(k), self.facts.get(k)) else {
             return Ok(());
         };
         let (rs1, rs2) = (comparison.first, comparison.second);

@@ -3,7 +3,7 @@
 ghost use Rattle.std.specs.Prelude.{◌≡◌, Ok};
 ghost use Rattle.scale_base.specs.Image.{image_of};
 
-use crate::ways::{Way, leads_on, way_of};
+use crate::ways::{Way, WayKind, leads_on, way_of};
 use code_text::instr_at;
 use elf_image::ImageView;
 use flow_graph::CodeGraph;
@@ -139,6 +139,20 @@ impl Program {
     /// The way of a number.
     pub fn way(&self, w: usize) -> Option<Way> {
         self.ways.get(w).copied()
+    }
+
+    /// The node behind a node's instruction, by a step; a branch isn't taken.
+    pub fn behind(&self, k: usize) -> Option<usize> {
+        let node = self.node(k)?;
+        let mut behind = None;
+        for w in node.first..node.end {
+            if let Some(way) = self.way(w) {
+                if let WayKind::Step = way.kind {
+                    behind = Some(way.to);
+                }
+            }
+        }
+        behind
     }
 
     /// The number of the last way to a node.

@@ -20,6 +20,9 @@ use wrapped_intervals::{Arc, exactly, first_by, keeps, second_by};
 /// From which length on an interval says nothing.
 const LONGEST: u64 = 0xF000_0000;
 
+/// How many instructions behind a difference are looked at for one that asks whether it is 0.
+const SOON: usize = 12;
+
 /// What registers tell where a state flows to, and the register of whose interval there nothing follows, since it is loaded.
 #[derive(Clone, Copy)]
 pub struct Sentences {
@@ -157,82 +160,195 @@ impl State {
     }
 }
 
-/// A comparison of two registers, or of one and a number, whose truth is written to a register.
+/// What holds of two words: one is less, as signed or as unsigned numbers, or they differ.
+#[derive(Clone, Copy)]
+enum Test {
+    IsLess,
+    IsBelow,
+    Differs,
+}
+
+/// A comparison of two registers, or of one and a number, that holds where what is written to the teller isn't 0, and doesn't where it is.
 #[derive(Clone, Copy)]
 pub struct Comparison {
     teller: u8,
     pub first: u8,
     pub second: u8,
     number: Option<Arc>,
-    is_signed: bool,
-}
-
-// A number as an interval.
-fn number_of(imm: i32) -> Option<Arc> {
-    exactly(u64::from(imm.cast_unsigned()))
+    test: Test,
 }
 
 // A comparison of a register and a number.
-fn with_number(teller: u8, first: u8, imm: i32, is_signed: bool) -> Comparison {
+fn with_number(teller: u8, first: u8, number: u32, test: Test) -> Comparison {
     Comparison {
         teller,
         first,
         second: 0,
-        number: number_of(imm),
-        is_signed,
+        number: exactly(u64::from(number)),
+        test,
     }
 }
 
 // And of two registers.
-fn of_both(teller: u8, first: u8, second: u8, is_signed: bool) -> Comparison {
+fn of_both(teller: u8, first: u8, second: u8, test: Test) -> Comparison {
     Comparison {
         teller,
         first,
         second,
         number: None,
-        is_signed,
+        test,
     }
 }
 
-/// The comparison whose truth an instruction writes.
-pub fn comparison_of(i: Instr) -> Option<Comparison> {
+// The comparison whose truth an instruction writes.
+fn truth_of(i: Instr) -> Option<Comparison> {
     match i {
         Instr::Imm {
             op: ImmOp::Slti,
             rd,
             rs1,
             imm,
-        } => Some(with_number(rd, rs1, imm, true)),
+        } => Some(with_number(rd, rs1, imm.cast_unsigned(), Test::IsLess)),
         Instr::Imm {
             op: ImmOp::Sltiu,
             rd,
             rs1,
             imm,
-        } => Some(with_number(rd, rs1, imm, false)),
+        } => Some(with_number(rd, rs1, imm.cast_unsigned(), Test::IsBelow)),
         Instr::Reg {
             op: RegOp::Slt,
             rd,
             rs1,
             rs2,
-        } => Some(of_both(rd, rs1, rs2, true)),
+        } => Some(of_both(rd, rs1, rs2, Test::IsLess)),
         Instr::Reg {
             op: RegOp::Sltu,
             rd,
             rs1,
             rs2,
-        } => Some(of_both(rd, rs1, rs2, false)),
+        } => Some(of_both(rd, rs1, rs2, Test::IsBelow)),
         _ => None,
     }
 }
 
+// What isn't 0 where two words differ: a sum with the opposite of one of them, a difference, or one word's bits turned round by the other.
+fn difference_of(i: Instr) -> Option<Comparison> {
+    match i {
+        Instr::Imm {
+            op: ImmOp::Addi,
+            rd,
+            rs1,
+            imm,
+        } => Some(with_number(rd, rs1, imm.cast_unsigned().wrapping_neg(), Test::Differs)),
+        Instr::Imm {
+            op: ImmOp::Xori,
+            rd,
+            rs1,
+            imm,
+        } => Some(with_number(rd, rs1, imm.cast_unsigned(), Test::Differs)),
+        Instr::Reg {
+            op: RegOp::Sub | RegOp::Xor,
+            rd,
+            rs1,
+            rs2,
+        } => Some(of_both(rd, rs1, rs2, Test::Differs)),
+        _ => None,
+    }
+}
+
+// Whether an instruction asks only whether a register is 0, or joins such questions.
+fn is_asked(i: Instr, r: u8) -> bool {
+    match i {
+        Instr::Imm {
+            op: ImmOp::Sltiu,
+            rd: _,
+            rs1,
+            imm,
+        } => rs1 == r && imm == 1,
+        Instr::Reg {
+            op: RegOp::Sltu,
+            rd: _,
+            rs1,
+            rs2,
+        } => rs1 == 0 && rs2 == r,
+        Instr::Reg {
+            op: RegOp::And | RegOp::Or,
+            rd: _,
+            rs1,
+            rs2,
+        } => rs1 == r || rs2 == r,
+        _ => is_tested(i, r),
+    }
+}
+
+// Whether it is asked of a register, soon behind a node, whether it is 0.
+fn is_asked_behind(program: &Program, k: usize, r: u8) -> bool {
+    let mut at = k;
+    for _ in 0..SOON {
+        let Some(next) = program.behind(at) else {
+            return false;
+        };
+        let Some(node) = program.node(next) else {
+            return false;
+        };
+        if is_asked(node.instr, r) {
+            return true;
+        }
+        if !keeps(r, node.instr) {
+            return false;
+        }
+        at = next;
+    }
+    false
+}
+
+// Whether a node's instruction makes a difference that tells of a register, and of which it is asked soon behind it whether it is 0.
+fn is_difference_asked(program: &Program, k: usize) -> bool {
+    let difference = program.node(k).and_then(|node| difference_of(node.instr));
+    match difference {
+        Some(difference) => difference.tells() && is_asked_behind(program, k, difference.teller),
+        None => false,
+    }
+}
+
+/// By node, whether its instruction's difference tells: it is asked soon behind it whether it is 0. Others would only take up places.
+pub fn asked_nodes(alloc: Global, program: &Program) -> Result<Vec<bool>, NoMemory> {
+    let mut asked = Vec::new(alloc);
+    for k in 0..program.nodes.len() {
+        asked.push(is_difference_asked(program, k))?;
+    }
+    Ok(asked)
+}
+
+/// What an instruction compares: what it writes is a truth, or a difference, if that tells.
+pub fn comparison_of(i: Instr, is_asked: bool) -> Option<Comparison> {
+    let truth = truth_of(i);
+    if truth.is_some() || !is_asked {
+        truth
+    } else {
+        difference_of(i)
+    }
+}
+
 impl Comparison {
+    // Whether something may be told of a register: it is not x0, and not the teller.
+    fn tells_of(&self, about: u8) -> bool {
+        about != 0 && about != self.teller && self.teller != 0
+    }
+
+    fn tells(&self) -> bool {
+        self.tells_of(self.first) || self.tells_of(self.second)
+    }
+
     // What the registers compare as where the teller is 0, or where it isn't.
     fn op(&self, zero: bool) -> BranchOp {
-        match (self.is_signed, zero) {
-            (true, false) => BranchOp::Blt,
-            (true, true) => BranchOp::Bge,
-            (false, false) => BranchOp::Bltu,
-            (false, true) => BranchOp::Bgeu,
+        match (self.test, zero) {
+            (Test::IsLess, false) => BranchOp::Blt,
+            (Test::IsLess, true) => BranchOp::Bge,
+            (Test::IsBelow, false) => BranchOp::Bltu,
+            (Test::IsBelow, true) => BranchOp::Bgeu,
+            (Test::Differs, false) => BranchOp::Bne,
+            (Test::Differs, true) => BranchOp::Beq,
         }
     }
 
@@ -263,7 +379,7 @@ impl Comparison {
 
     fn told(&self, about: u8, zero: bool, arc: Option<Arc>) -> Option<Told> {
         let arc = kept(arc)?;
-        if about == 0 || about == self.teller || self.teller == 0 {
+        if !self.tells_of(about) {
             return None;
         }
         Some(Told {
@@ -368,10 +484,11 @@ fn is_tested(i: Instr, r: u8) -> bool {
     }
 }
 
-/// A step from a node, and the intervals that it leaves.
+/// A step from a node, what it compares, and the intervals that it leaves.
 #[derive(Clone, Copy)]
 pub struct Telling<'a> {
     pub step: Step,
+    pub comparison: Option<Comparison>,
     pub from: &'a Facts,
     pub passed: &'a Row,
 }
@@ -388,7 +505,7 @@ impl Telling<'_> {
 
     // Adds what a comparison tells.
     fn add_compared(&self, to: &mut Sentences) {
-        let Some(comparison) = comparison_of(self.step.instr) else {
+        let Some(comparison) = self.comparison else {
             return;
         };
         for zero in [false, true] {
@@ -513,6 +630,7 @@ pub fn put_told(step: Step, from: &Facts, to: &mut State) {
         for told in &from.told {
             let telling = Telling {
                 step,
+                comparison: None,
                 from,
                 passed: &to.row,
             };
