@@ -10,6 +10,7 @@ use crate::scope::Scope;
 use crate::turning::find_turns;
 use crate::turns::{Turns, turns_of};
 use crate::unturned::{UNTURNED, is_turned, no_turns};
+use crate::walks::find_walk;
 use loop_forest::LoopTree;
 use scale_base::NoMemory;
 use shown_bounds::{StackCertificate, StackCounter};
@@ -17,6 +18,7 @@ use stack_tables::StackClaim;
 use std::alloc::Global;
 use turn_checks::{TurnKind, TurnPlace, TurnTable};
 use value_analysis::Tables;
+use walk_checks::{WalkPlace, WalkTable};
 use wrapped_intervals::Measure;
 
 /// Bounds from here on say nothing.
@@ -24,6 +26,9 @@ const NO_BOUND: u32 = 0x8000_0000;
 
 /// Where a counter has such a bound, it is looked at what else turns do: that of a pointer may be the size of its segment.
 const WIDE: u32 = 16;
+
+/// Where the bound is not less, it is looked at where turns access memory: an area of the stack alone has more bytes.
+const FAR: u32 = 4096;
 
 /// No number of a register.
 const NO_MEASURE: Measure = Measure {
@@ -158,10 +163,10 @@ fn counter_of(place: Place, limits: &Limits) -> StackCounter {
 
 fn certificate_of(
     alloc: Global,
-    scope: Scope<'_>,
+    scope: &Scope<'_>,
     choice: Choice,
 ) -> Result<StackCertificate, NoMemory> {
-    let quiet = quiet_of(alloc, &scope)?;
+    let quiet = quiet_of(alloc, scope)?;
     let Choice {
         place,
         limits,
@@ -174,7 +179,7 @@ fn certificate_of(
         counter: counter_of(place, &limits),
         width: limits.width,
         least: limits.least,
-        body: scope.body,
+        body: scope.body.clone()?,
         adds: turns.adds,
         offset: turns.offset,
         quiet,
@@ -184,8 +189,8 @@ fn certificate_of(
 }
 
 // A certificate of a loop that no run turns, by x0.
-fn unturned(alloc: Global, scope: Scope<'_>) -> Result<StackCertificate, NoMemory> {
-    let turns = no_turns(alloc, &scope)?;
+fn unturned(alloc: Global, scope: &Scope<'_>) -> Result<StackCertificate, NoMemory> {
+    let turns = no_turns(alloc, scope)?;
     let choice = Choice {
         place: Place::Register(0),
         limits: UNTURNED,
@@ -245,6 +250,106 @@ fn is_within(counter: &Option<Choice>, number: u32) -> bool {
     }
 }
 
+// A certificate by a counter, or by what each turn does, of the least bound that is found.
+fn counted(
+    alloc: Global,
+    scope: &Scope<'_>,
+    most: Option<u32>,
+) -> Result<Option<StackCertificate>, NoMemory> {
+    let register = choose_register(alloc, scope)?;
+    let place = choose_word(alloc, scope, register)?;
+    let counter = choose_sum(alloc, scope, place)?;
+    if let Some(table) = find_turns(alloc, scope, most, !is_within(&counter, WIDE))? {
+        if !is_within(&counter, bound_by(&table).saturating_add(1)) {
+            return Ok(Some(certificate_by(alloc, table)));
+        }
+    }
+    match counter {
+        Some(choice) if choice.limits.bound() < NO_BOUND => {
+            Ok(Some(certificate_of(alloc, scope, choice)?))
+        }
+        _ => Ok(None),
+    }
+}
+
+// The bound of a certificate.
+fn bound_of(certificate: &StackCertificate) -> u32 {
+    certificate
+        .width
+        .checked_div(certificate.least)
+        .unwrap_or(u32::MAX)
+}
+
+// What is added to a register in a pointer.
+fn other_of(table: &WalkTable, factor: u32) -> (u8, u32) {
+    match table.second {
+        WalkPlace::Register(r) => {
+            if table.second_factor == 0 {
+                (0, 0)
+            } else {
+                (r, factor)
+            }
+        }
+        WalkPlace::Word(_) => (0, 0),
+    }
+}
+
+// The pointer of a walk.
+fn pointer_of(table: &WalkTable) -> StackCounter {
+    let factor = if table.down { u32::MAX } else { 1 };
+    let (other, other_factor) = other_of(table, factor);
+    match table.first {
+        WalkPlace::Register(register) => StackCounter::InRegisters(Measure {
+            register,
+            factor,
+            other,
+            other_factor,
+            shift: 0,
+        }),
+        WalkPlace::Word(number) => StackCounter::InWord {
+            number,
+            factor,
+            shift: 0,
+        },
+    }
+}
+
+// A certificate by a walk through memory.
+fn walked(alloc: Global, table: WalkTable) -> StackCertificate {
+    StackCertificate {
+        counter: pointer_of(&table),
+        width: table.width,
+        least: table.least,
+        body: Vec::new(alloc),
+        adds: Vec::new(alloc),
+        offset: Vec::new(alloc),
+        quiet: Vec::new(alloc),
+        turns: None,
+        walk: Some(table),
+    }
+}
+
+// The certificate that was found, or one by a walk where that has a lesser bound.
+fn or_walked(
+    alloc: Global,
+    scope: &Scope<'_>,
+    found: Option<StackCertificate>,
+) -> Result<Option<StackCertificate>, NoMemory> {
+    let bound = match &found {
+        Some(certificate) => bound_of(certificate),
+        None => NO_BOUND,
+    };
+    if bound < FAR {
+        return Ok(found);
+    }
+    match find_walk(alloc, scope)? {
+        Some(table) if table.width.checked_div(table.least).unwrap_or(bound) < bound => {
+            Ok(Some(walked(alloc, table)))
+        }
+        _ => Ok(found),
+    }
+}
+
 /// A certificate of loop `k` of a program, of the least bound that is found; none where nothing is found, or a bound that says nothing.
 pub fn find_certificate(
     alloc: Global,
@@ -261,20 +366,8 @@ pub fn find_certificate(
         return Ok(None);
     }
     if !is_turned(&scope) {
-        return Ok(Some(unturned(alloc, scope)?));
+        return Ok(Some(unturned(alloc, &scope)?));
     }
-    let register = choose_register(alloc, &scope)?;
-    let place = choose_word(alloc, &scope, register)?;
-    let counter = choose_sum(alloc, &scope, place)?;
-    if let Some(table) = find_turns(alloc, &scope, most, !is_within(&counter, WIDE))? {
-        if !is_within(&counter, bound_by(&table).saturating_add(1)) {
-            return Ok(Some(certificate_by(alloc, table)));
-        }
-    }
-    match counter {
-        Some(choice) if choice.limits.bound() < NO_BOUND => {
-            Ok(Some(certificate_of(alloc, scope, choice)?))
-        }
-        _ => Ok(None),
-    }
+    let found = counted(alloc, &scope, most)?;
+    or_walked(alloc, &scope, found)
 }

@@ -246,4 +246,9 @@ impl<'a> Scope<'a> {
     pub fn place(&self) -> Option<Arc> {
         self.tables.stack.place
     }
+
+    /// Where memory may be accessed.
+    pub fn areas(&self) -> &'a [Arc] {
+        &self.tables.stack.areas
+    }
 }

@@ -42,7 +42,8 @@ pub struct Numbers {
 }
 
 impl Numbers {
-    fn new(alloc: Global, scope: &Scope<'_>) -> Result<Numbers, NoMemory> {
+    /// Those of a loop.
+    pub fn new(alloc: Global, scope: &Scope<'_>) -> Result<Numbers, NoMemory> {
         let mut of_node = vec![in alloc; u32::MAX; scope.body.len()]?;
         let mut number = 0u32;
         for k in scope.nodes {
@@ -54,7 +55,8 @@ impl Numbers {
         Ok(Numbers { of_node })
     }
 
-    fn of(&self, k: usize) -> usize {
+    /// That of a node.
+    pub fn of(&self, k: usize) -> usize {
         match self.of_node.get(k) {
             Some(number) => *number as usize,
             None => usize::MAX,

@@ -1,0 +1,84 @@
+//! The ground of a walk: intervals that hold the areas, farther from each other than a step.
+
+ghost use Rattle.std.specs.Prelude.{◌<◌, ◌≤◌};
+
+use scale_base::NoMemory;
+use std::alloc::Global;
+use wrapped_intervals::Arc;
+
+/// How many words there are.
+const WORDS: u64 = 4_294_967_296;
+
+/// How many intervals a ground has at most.
+const MOST_INTERVALS: usize = 16;
+
+/// The ground: its intervals, and the number that the longest one has more than its first.
+#[derive(Drop)]
+pub struct Ground {
+    pub intervals: Vec<Arc>,
+    pub longest: u32,
+}
+
+// The first and the last number of an interval that doesn't wrap.
+fn ends_of(arc: &Arc) -> Option<(u32, u32)> {
+    let low = u32::try_from(arc.low()).ok()?;
+    let more = u32::try_from(arc.more()).ok()?;
+    Some((low, low.checked_add(more)?))
+}
+
+// The ends of all areas, in order. None where one of them wraps.
+fn sorted_ends(alloc: Global, areas: &[Arc]) -> Result<Option<Vec<(u32, u32)>>, NoMemory> {
+    let mut all = Vec::new(alloc);
+    for area in areas {
+        match ends_of(area) {
+            Some(ends) => all.push(ends)?,
+            None => return Ok(None),
+        }
+    }
+    all.sort()?;
+    Ok(Some(all))
+}
+
+impl Ground {
+    fn add(&mut self, low: u32, last: u32) -> Result<(), NoMemory> {
+        let more = last.saturating_sub(low);
+        self.longest = self.longest.max(more);
+        self.intervals
+            .push(Arc::of(u64::from(low), u64::from(more)))?;
+        Ok(())
+    }
+}
+
+// Whether the last number is farther from the first one, behind the wrap, than the gap.
+fn is_apart_round(low: u32, last: u32, gap: u32) -> bool {
+    u64::from(low) + WORDS > u64::from(last) + u64::from(gap)
+}
+
+/// The ground of areas for steps of so many bytes at most.
+pub fn ground_of(alloc: Global, areas: &[Arc], gap: u32) -> Result<Option<Ground>, NoMemory> {
+    let Some(all) = sorted_ends(alloc, areas)? else {
+        return Ok(None);
+    };
+    let Some(begun) = all.first().copied() else {
+        return Ok(None);
+    };
+    let mut ground = Ground {
+        intervals: Vec::new(alloc),
+        longest: 0,
+    };
+    let (mut low, mut last) = begun;
+    for ends in &all {
+        let (next, end) = *ends;
+        if u64::from(next) > u64::from(last) + u64::from(gap) {
+            ground.add(low, last)?;
+            low = next;
+        }
+        last = last.max(end);
+    }
+    ground.add(low, last)?;
+    if ground.intervals.len() <= MOST_INTERVALS && is_apart_round(begun.0, last, gap) {
+        Ok(Some(ground))
+    } else {
+        Ok(None)
+    }
+}
