@@ -48,17 +48,21 @@ fn below(headers: &[Header], at: u32) -> usize
     headers.partition_point(|header| header.at < at)
 }
 
-// How many headers stand at or below an address.
+// How many headers at the front stand at an address, below which none stands.
 fn up_to(headers: &[Header], at: u32) -> usize
-    requires { IsNonDecreasingBy (λ (h : Header). h.at) headers.now }
+    requires rise { IsNonDecreasingBy (λ (h : Header). h.at) headers.now }
+    requires above { (k : ℕ) (d : Header) → k < length headers.now → at ≤ (slice_index_or headers.now k d).at }
     ensures bound { result ≤ length headers.now }
     ensures before { (k : ℕ) (d : Header) → k < result → (slice_index_or headers.now k d).at ≤ at }
     ensures behind { (k : ℕ) (d : Header) → result ≤ k → k < length headers.now → at < (slice_index_or headers.now k d).at }
 {
-    headers.partition_point(|header| header.at <= at)
+    headers
+        .iter()
+        .position(|header| header.at != at)
+        .unwrap_or(headers.len())
 }
 
-/// The headers at an address.
+/// The headers at an address. It takes logarithmic time in all headers, and linear time in those at the address.
 pub fn headers_at(headers: &[Header], at: u32) -> &[Header]
     requires { IsNonDecreasingBy (λ (h : Header). h.at) headers.now }
     ensures { result.now ≡ filter (is_of at) headers.now }

@@ -230,6 +230,13 @@ impl Monitor {
         self.kept
     }
 
+    /// Whether the run is kept so far; after a break, what was broken first.
+    pub fn kept(&self) -> Kept
+        ensures { result ≡ self.now.kept }
+    {
+        self.kept
+    }
+
     /// How many back edges of loop `l` the run has taken since the loop was last entered. A step that breaks what is noted changes no count.
     pub fn count(&self, l: usize) -> u32
         requires { l < length self.now.notes }
