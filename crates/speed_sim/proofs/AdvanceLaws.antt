@@ -1,6 +1,5 @@
 -- One step of a run, priced and watched.
 use Rattle.std.proofs.Common.{◌≡◌, ℕ, ◌+◌, ◌<◌, length, Option, Some, None, refl, ap, sym, ◌∙◌, subst}
-use Rattle.std.specs.Prelude.{IfSome}
 use Rattle.scale_base.specs.declared.endings.End.{End}
 use Rattle.scale_base.specs.declared.endings.End.TheVariants as endings
 use Rattle.scale_base.specs.declared.stepping.Stepped.{Stepped}
@@ -16,7 +15,7 @@ use Rattle.rv_machine.specs.declared.code.Code.{Code}
 use Rattle.rv_machine.specs.Code.{IsDecodedCode}
 use Rattle.speed_sim.specs.Simulated.{run_end}
 use Rattle.speed_sim.specs.Seen.{seen_after}
-use Rattle.speed_sim.specs.Progress.{Job, Progress, IsRunEnd, seen_by}
+use Rattle.speed_sim.specs.Progress.{Job, Progress, seen_by}
 use Rattle.speed_sim.specs.Tallied.{IsPaid, IsAdvance, ended_by}
 use Rattle.speed_sim.proofs.CodeLaws.{code_kept}
 use Rattle.speed_sim.proofs.ProgressLaws.{progress_went, over_exited, over_trapped}

@@ -6,7 +6,7 @@ use Rattle.scale_base.specs.Layout.{may_write}
 use Rattle.scale_base.specs.State.{Setting, State}
 use Rattle.scale_base.specs.Step.{step}
 use Rattle.scale_base.proofs.Laws.{outcome}
-use Rattle.graph_runs.proofs.Laws.{IsTrap, IsDone, step_done}
+use Rattle.graph_runs.proofs.Laws.{IsTrap, step_done}
 use Rattle.rv_machine.specs.declared.code.Code.{Code}
 use Rattle.rv_machine.specs.Code.{IsDecodedCode}
 use Rattle.rv_machine.proofs.Laws.{code_stays}

@@ -13,7 +13,7 @@ use Rattle.power_model.specs.Numbers.{RunPrice}
 use Rattle.power_model.specs.Price.{price, metered, unstarted}
 use Rattle.power_model.proofs.Laws.{one_more}
 use Rattle.speed_sim.specs.Progress.{Job, Progress, IsRunEnd}
-use Rattle.speed_sim.specs.Seen.{seen_more, seen_after, seen_from}
+use Rattle.speed_sim.specs.Seen.{seen_more}
 use Rattle.speed_sim.proofs.SeenLaws.{seen_none, seen_step, seen_ended}
 
 pub progress_first : {W : Type 0} (job : Job W) (paid : RunPrice) (seen : W) → job.start < length job.power.levels → paid ≡ unstarted job.start →

@@ -1,5 +1,5 @@
 -- The report of a run.
-use Rattle.std.proofs.Common.{◌≡◌, ℕ, ◌<◌, List, length, Option, Some, None, option_map, refl, sym, ◌∙◌, ap, subst}
+use Rattle.std.proofs.Common.{◌≡◌, ℕ, ◌<◌, List, length, Option, None, option_map, refl, sym, ◌∙◌, ap, subst}
 use Rattle.scale_base.specs.declared.endings.End.{End}
 use Rattle.scale_base.specs.declared.endings.Kept.{Kept}
 use Rattle.scale_base.specs.declared.stepping.Stepped.{Stepped}
@@ -12,10 +12,9 @@ use Rattle.power_model.specs.Price.{price, held_energy}
 use Rattle.power_model.specs.Report.{Report}
 use Rattle.power_model.proofs.Laws.{start-price}
 use Rattle.loop_file.specs.declared.notes.LoopNote.{LoopNote}
-use Rattle.keep_monitor.specs.Watch.{Watched, watch, watched_first, watched_from, watched_at}
+use Rattle.keep_monitor.specs.Watch.{watched_at}
 use Rattle.speed_sim.specs.Seen.{seen_from}
 use Rattle.speed_sim.specs.Simulated.{run_end, report_of}
-use Rattle.speed_sim.proofs.SeenLaws.{monitor_seen}
 
 -- the setting and the state of an image's run at its start, by their parts
 pub image_setting : (image : Image) (levels : ℕ) (input : List ℕ) (layout : Layout) (n : ℕ) (bytes : List ℕ) →
@@ -72,14 +71,3 @@ pub with_kept : (power : PowerModel) (image : Image) (input : List ℕ) (notes :
 unfolding report_of
 with_kept power image input notes r kept is kept_is =
     same_report _ _ _ _ _ _ _ _ kept _ (ap (λ (q : Report). q.end) is) (ap (λ (q : Report). q.paid) is) (ap (λ (q : Report). q.held) is) (ap (λ (q : Report). q.output) is) kept_is
-
--- what a monitor says of a run
-pub kept_seen : (env : Setting) (first : State) (notes : Option (List LoopNote)) (n : ℕ) (unseen watched : Option Watched) (kept : Option Kept) → unseen ≡ option_map watched_first notes →
-    watched ≡ seen_from env first (λ o x. option_map (λ w. watch w x) o) unseen n → kept ≡ option_map (λ w. w.kept) watched →
-    kept ≡ option_map (λ loops. (watched_from env first loops n).kept) notes
-kept_seen env first notes n unseen watched kept begun seen is =
-    is ∙ (ap (option_map (λ (w : Watched). w.kept)) (seen ∙ (ap (λ o. seen_from env first (λ o x. option_map (λ w. watch w x) o) o n) begun ∙ monitor_seen env first notes n)) ∙ twice notes)
-  where
-    twice : (o : Option (List LoopNote)) → option_map (λ (w : Watched). w.kept) (option_map (λ l. watched_from env first l n) o) ≡ option_map (λ loops. (watched_from env first loops n).kept) o
-    twice None = refl
-    twice (Some l) = refl

@@ -1,5 +1,5 @@
 -- What sees the steps of a run, step by step and past the run's end.
-use Rattle.std.proofs.Common.{◌≡◌, ℕ, zero, suc, ◌+◌, ◌-◌, ◌<◌, List, Option, Some, None, option_map, refl, sym, ◌∙◌, ap, arith, add-one, zero-add}
+use Rattle.std.proofs.Common.{◌≡◌, ℕ, zero, suc, ◌+◌, ◌-◌, ◌<◌, List, refl, sym, ◌∙◌, ap, arith, add-one, zero-add}
 use Rattle.scale_base.specs.declared.stepping.Stepped.{Stepped}
 use Rattle.scale_base.specs.declared.stepping.StepEnd.{StepEnd}
 use Rattle.scale_base.specs.declared.stepping.StepEnd.TheVariants.{Went, Exited, Trapped}
@@ -48,41 +48,22 @@ seen_ended env s see first k n standing over ended lt =
     let m : n ≡ (n - (k + 1)) + (k + 1) = omega arith in
     ap (seen_from env s see first) m ∙ seen_still env s see first k standing over ended (n - (k + 1))
 
--- ---- what a monitor sees, where there are notes
+-- ---- what a monitor sees
 
-watched_end : (notes : Option (List LoopNote)) (w : List LoopNote → Watched) (standing : Standing) (end : StepEnd) →
-    seen_more (λ o x. option_map (λ u. watch u x) o) (option_map w notes) standing end ≡ option_map (λ l. watch_end (w l) standing end) notes
-watched_end None w GoesOn (Went x) = refl
-watched_end None w GoesOn (Exited x status) = refl
-watched_end None w GoesOn (Trapped trap) = refl
-watched_end None w (HasExited status) end = refl
-watched_end None w (HasTrapped trap) end = refl
-watched_end (Some l) w GoesOn (Went x) = refl
-watched_end (Some l) w GoesOn (Exited x status) = refl
-watched_end (Some l) w GoesOn (Trapped trap) = refl
-watched_end (Some l) w (HasExited status) end = refl
-watched_end (Some l) w (HasTrapped trap) end = refl
+watched_end : (w : Watched) (standing : Standing) (end : StepEnd) → seen_more watch w standing end ≡ watch_end w standing end
+watched_end w GoesOn (Went x) = refl
+watched_end w GoesOn (Exited x status) = refl
+watched_end w GoesOn (Trapped trap) = refl
+watched_end w (HasExited status) end = refl
+watched_end w (HasTrapped trap) end = refl
 
-watched_next : (env : Setting) (s : State) (n : ℕ) (notes : Option (List LoopNote)) →
-    option_map (λ l. watch_end (watched_from env s l n) (run env s n).standing (step env (run env s n).state).end) notes ≡ option_map (λ l. watched_from env s l (suc n)) notes
-unfolding watched_from
-watched_next env s n None = refl
-watched_next env s n (Some l) = refl
-
-watched_begin : (env : Setting) (s : State) (notes : Option (List LoopNote)) → option_map watched_first notes ≡ option_map (λ l. watched_from env s l 0) notes
-unfolding watched_from
-watched_begin env s None = refl
-watched_begin env s (Some l) = refl
-
-pub monitor_seen : (env : Setting) (s : State) (notes : Option (List LoopNote)) (n : ℕ) →
-    seen_from env s (λ o x. option_map (λ w. watch w x) o) (option_map watched_first notes) n ≡ option_map (λ l. watched_from env s l n) notes
-unfolding seen_from
-monitor_seen env s notes zero = watched_begin env s notes
+pub monitor_seen : (env : Setting) (s : State) (notes : List LoopNote) (n : ℕ) → seen_from env s watch (watched_first notes) n ≡ watched_from env s notes n
+unfolding seen_from watched_from
+monitor_seen env s notes zero = refl
 monitor_seen env s notes (suc n) =
     let standing = (run env s n).standing in
     let end = (step env (run env s n).state).end in
-    ap (λ o. seen_more (λ o x. option_map (λ w. watch w x) o) o standing end) (monitor_seen env s notes n) ∙
-    (watched_end notes (λ l. watched_from env s l n) standing end ∙ watched_next env s n notes)
+    ap (λ w. seen_more watch w standing end) (monitor_seen env s notes n) ∙ watched_end (watched_from env s notes n) standing end
 
 -- ---- what a counter of loops sees
 

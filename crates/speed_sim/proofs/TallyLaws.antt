@@ -1,10 +1,9 @@
 -- The price of a run as its numbers up to a step and the cycles behind it.
-use Rattle.std.proofs.Common.{◌≡◌, ℕ, ◌+◌, ◌*◌, ◌==◌, ◌<◌, Bool, true, cond, [], ◌∷◌, Some, None, refl, ap, sym, ◌∙◌, arith}
-use Rattle.std.specs.Prelude.{unwrap_or, IfSome}
+use Rattle.std.proofs.Common.{◌≡◌, ℕ, ◌+◌, ◌*◌, ◌==◌, true, [], ◌∷◌, None, refl, ap, sym, ◌∙◌, arith}
+use Rattle.std.specs.Prelude.{unwrap_or}
 use Rattle.std.proofs.Math.Nat.{add-mul, zero-mul}
 use Rattle.std.proofs.lemmas.Bool.{cond-true}
 use Rattle.std.proofs.lemmas.Bool.Decides.{nat_tests}
-use Rattle.scale_base.specs.declared.stepping.Class.{Class}
 use Rattle.scale_base.specs.declared.stepping.Class.TheVariants.{Alu, Load, Store, Taken, Untaken, Jump, Mul, Div, Ecall, Fence}
 use Rattle.scale_base.specs.declared.stepping.Stepped.{Stepped}
 use Rattle.scale_base.specs.Step.{PortBelow}
@@ -15,7 +14,7 @@ use Rattle.rv_machine.specs.Decoded.{decoded_end, LevelBelow}
 use Rattle.power_model.specs.declared.power.Costs.{Costs}
 use Rattle.power_model.specs.Levels.{level}
 use Rattle.power_model.specs.Numbers.{PowerModel, RunPrice}
-use Rattle.power_model.specs.Price.{metered, unstarted, step_cycles, keyed_cycles, switch_time, switch_energy, one_switch, level_after}
+use Rattle.power_model.specs.Price.{metered, step_cycles, keyed_cycles, switch_time, switch_energy, one_switch, level_after}
 use Rattle.speed_sim.specs.Tallied.{with_cycles, AreCosts}
 
 -- the costs, each in the place of its class

@@ -1,5 +1,5 @@
 -- Scaffold: the price of a run as its numbers up to a step and the cycles behind it at the same level.
-use Rattle.std.specs.Prelude.{◌≡◌, ℕ, ◌+◌, ◌*◌, List, slice_index, Option, Some, None}
+use Rattle.std.specs.Prelude.{◌≡◌, ℕ, ◌+◌, List, slice_index, Option, Some, None}
 use Rattle.scale_base.specs.declared.endings.End.{End}
 use Rattle.scale_base.specs.declared.endings.End.TheVariants as endings
 use Rattle.scale_base.specs.declared.stepping.Class.{Class}
@@ -9,7 +9,6 @@ use Rattle.scale_base.specs.declared.stepping.StepEnd.TheVariants.{Went, Exited,
 use Rattle.scale_base.specs.State.{State}
 use Rattle.scale_base.specs.Step.{Outcome}
 use Rattle.power_model.specs.declared.power.Costs.{Costs}
-use Rattle.power_model.specs.Levels.{level}
 use Rattle.power_model.specs.Numbers.{PowerModel, RunPrice}
 use Rattle.power_model.specs.Price.{cycles_of, metered, time_at, energy_at}
 use Rattle.scale_base.specs.declared.stepping.Stepped.{Stepped}

@@ -8,10 +8,10 @@ ghost use Rattle.speed_sim.specs.Seen.{seen_from};
 ghost use Rattle.speed_sim.specs.Simulated.{report_of};
 
 use crate::running::run_machine;
-use crate::watcher::{Watches, kept_of, watcher_of};
+use crate::watcher::{Unwatched, Watches};
 use elf_image::ImageView;
 use flat_memory::load_pages;
-use keep_monitor::LoopCounter;
+use keep_monitor::{LoopCounter, Monitor};
 use loop_file::LoopNotes;
 use power_model::{Power, RunReport};
 use run_progress::Progress;
@@ -86,9 +86,12 @@ pub fn report<P: Progress>(
     requires is_level { given.now.start < length given.now.power.now.levels }
     ensures { IfOk result (λ r. report_view r ≡ report_of given.now.power.now given.now.view.now input.now notes) }
 {
-    let mut watcher = watcher_of(alloc, notes)?;
-    let mut report = watched_with_progress(alloc, given, input, &mut watcher, progress)?;
-    report.kept = kept_of(&watcher);
+    let Some(notes) = notes else {
+        return watched_with_progress(alloc, given, input, &mut Unwatched, progress);
+    };
+    let mut monitor = Monitor::new(alloc, notes)?;
+    let mut report = watched_with_progress(alloc, given, input, &mut monitor, progress)?;
+    report.kept = Some(monitor.kept());
     Ok(report)
 }
 

@@ -83,6 +83,28 @@ fn seen<W: Watches>(watcher: &mut W, end: &StepEnd) -> Option<End>
     }
 }
 
+/// One step of the machine whose instruction isn't known, priced and watched, and how the run ended, if the step ended it.
+#[inline(always)]
+fn advance_unknown<M: Memory, W: Watches>(
+    machine: &mut Machine<M>,
+    power: &Power,
+    tally: &mut Tally,
+    watcher: &mut W,
+) -> Option<End>
+    requires levels { machine.old.levels ≡ length power.now.levels }
+    requires level { tally.old.meter.level < length power.now.levels }
+    requires few { tally.old.meter.steps + tally.old.steps < 2 ^ 40 }
+    ensures advance { let o = steps.step (machine_setting M.layout machine.old) (state_of M.bytes machine.old) in
+        IsAdvance power.now W.watched o (state_of M.bytes machine.new) (tallied power.now tally.old) (tallied power.now tally.new)
+        watcher.old watcher.new result }
+    ensures setting { machine_setting M.layout machine.new ≡ machine_setting M.layout machine.old }
+    ensures port { let o = steps.step (machine_setting M.layout machine.old) (state_of M.bytes machine.old) in
+        PortBelow o.end machine.old.levels }
+{
+    let end = pay_step(machine, power, tally);
+    seen(watcher, &end)
+}
+
 /// One step of the machine, with its code, priced and watched, and how the run ended, if the step ended it.
 #[inline(always)]
 fn advance<M: Memory, W: Watches>(
@@ -106,7 +128,7 @@ fn advance<M: Memory, W: Watches>(
 {
     match code.instr(machine.pc) {
         Some(known) => seen(watcher, &pay_known(machine, known, prices, tally)),
-        None => seen(watcher, &pay_step(machine, prices.power, tally)),
+        None => advance_unknown(machine, prices.power, tally, watcher),
     }
 }
 

@@ -1,8 +1,7 @@
-use Rattle.std.proofs.Common.{◌≡◌, ◌∙◌, ap, sym, length, Some}
-use Rattle.std.specs.Prelude.{Option}
+use Rattle.std.proofs.Common.{◌∙◌, ap, length, Some}
 use Rattle.scale_base.specs.declared.endings.Kept.{Kept}
 use Rattle.scale_base.specs.Run.{setting_of, start_of}
-use Rattle.keep_monitor.specs.Counted.{Counted, counted, counted_first}
+use Rattle.keep_monitor.specs.Counted.{Counted, counted}
 use Rattle.keep_monitor.proofs.Laws.{counted_is}
 use Rattle.speed_sim.specs.Seen.{seen_from}
 use Rattle.speed_sim.proofs.SeenLaws.{counter_seen}

@@ -1,7 +1,5 @@
-use Rattle.std.proofs.Common.{◌≡◌, ◌∙◌, ap, length}
+use Rattle.std.proofs.Common.{◌∙◌, ap, length}
 use Rattle.power_model.specs.Numbers.{PowerModel}
-use Rattle.scale_base.specs.State.{Setting, State}
-use Rattle.scale_base.specs.Run.{setting_of, start_of}
 use Rattle.speed_sim.proofs.ReportLaws.{image_setting, image_start, paid_start, reported, seen_there}
 use Rattle.speed_sim.proofs.reporting.watched_with_progress.Goals as goal
 

@@ -1,6 +1,5 @@
-use Rattle.std.proofs.Common.{◌≡◌, ◌∙◌, sym, ap}
+use Rattle.std.proofs.Common.{◌∙◌, sym, ap}
 use Rattle.std.specs.Prelude.{option_copied}
-use Rattle.rv_machine.specs.Machine.{state_of, machine_setting}
 use Rattle.rv_machine.proofs.Laws.{known_fixed}
 use Rattle.speed_sim.proofs.AdvanceLaws.{advanced, port_of}
 use Rattle.speed_sim.proofs.running.advance.Goals as goal
@@ -16,10 +15,3 @@ returns-in-Some-clause-advance g c =
 
 pub returns-in-Some-clause-port : goal.returns-in-Some-clause-port
 returns-in-Some-clause-port g c = port_of _ _ c.pay_known.result _ c.pay_known.ensures.outcome c.pay_known.ensures.port
-
-pub returns-in-None-clause-advance : goal.returns-in-None-clause-advance
-returns-in-None-clause-advance g c =
-    advanced _ _ _ _ c.pay_step.result _ _ _ _ _ c.pay_step.ensures.outcome c.pay_step.ensures.paid c.seen-in-None.ensures.watched c.seen-in-None.ensures.ended
-
-pub returns-in-None-clause-port : goal.returns-in-None-clause-port
-returns-in-None-clause-port g c = port_of _ _ c.pay_step.result _ c.pay_step.ensures.outcome c.pay_step.ensures.port

@@ -1,7 +1,5 @@
-use Rattle.std.proofs.Common.{◌≡◌, ◌∙◌, sym, ap, subst, length}
+use Rattle.std.proofs.Common.{sym, subst, length}
 use Rattle.scale_base.specs.Step.{PortBelow}
-use Rattle.rv_machine.specs.Decoded.{decoded_end}
-use Rattle.rv_machine.specs.Machine.{outcome_of}
 use Rattle.scale_base.specs.declared.stepping.StepEnd.{StepEnd}
 use Rattle.speed_sim.proofs.TallyLaws.{port_below}
 use Rattle.speed_sim.proofs.running.pay_known.Goals as goal
