@@ -1,6 +1,6 @@
 //! Where each entry of each level stands last, before any word of the keyed segment.
 
-ghost use Rattle.std.specs.Prelude.{◌≡◌, ◌<◌, ◌≤◌, ◌+◌, ◌-◌, ◌*◌, ◌/◌, ◌^◌, ℕ, IfOk};
+ghost use Rattle.std.specs.Prelude.{◌≡◌, ◌<◌, ◌≤◌, ◌+◌, ◌-◌, ◌*◌, ◌/◌, ◌^◌, ℕ, IfOk, vec_len};
 ghost use Rattle.scale_base.specs.Image.{loaded_byte};
 ghost use Rattle.stored_runs.specs.Meaning.{four_bits};
 ghost use Rattle.flat_memory.specs.Lists.{list_bytes};
@@ -106,20 +106,23 @@ pub struct LastRows {
     pub first: u32,
     /// How many words there are.
     pub count: u32,
-    /// The places before each 64th word.
+    /// The places before word 0 and before each 64th word behind it, up to some word.
     pub blocks: Vec<LastPlaces>,
     ghost fits: { 4 * (first + count) < 2 ^ 32 },
-    ghost places: { AreBlocks (words_from (list_bytes memory) first) (count / 64 + 1) blocks.items },
+    ghost some: { 1 ≤ vec_len blocks },
+    ghost few: { vec_len blocks ≤ count / 64 + 1 },
+    ghost places: { AreBlocks (words_from (list_bytes memory) first) (vec_len blocks) blocks.items },
 }
 
 impl LastRows {
-    /// Where each entry of each level stands last among the first `end` words. Reads at most 63 words.
+    /// Where each entry of each level stands last among the first `end` words. Reads the words from the last place before `end` on: at most 63 words where
+    /// there are places before each 64th word.
     pub fn places_before(&self, end: u32) -> LastPlaces
         requires { end ≤ self.now.count }
         ensures { AreLastBefore (words_from (list_bytes self.now.memory) self.now.first) end result }
     {
-        let b = end / 64;
-        self.blocks[b as usize].with_words(&self.memory, self.first, 64 * b, end)
+        let b = (end as usize / 64).min(self.blocks.len() - 1);
+        self.blocks[b].with_words(&self.memory, self.first, 64 * b as u32, end)
     }
 }
 
@@ -138,16 +141,16 @@ fn key_words(view: &ImageView<'_>) -> (u32, u32)
     }
 }
 
-/// The memory of an image, with the places of its keyed segment. Reads each word of that segment once; the places take twice the bytes of the segment, and
-/// 512 more. Err only for want of memory.
-pub fn read_rows(alloc: Global, view: &ImageView<'_>) -> Result<LastRows, NoMemory>
+/// The memory of an image. Where its rows are looked at, the places of its keyed segment are read too, each word of that segment once; they take twice the
+/// bytes of the segment, and 512 more. Err only for want of memory.
+pub fn read_rows(alloc: Global, view: &ImageView<'_>, are_read: bool) -> Result<LastRows, NoMemory>
     ensures bytes { IfOk result (λ rows. list_bytes rows.memory ≡ loaded_byte view.now) }
     ensures first { IfOk result (λ rows. rows.first ≡ first_of_key view.now.keyed_segment) }
     ensures count { IfOk result (λ rows. rows.count ≡ count_of_key view.now.keyed_segment) }
 {
     let (first, count) = key_words(view);
     let memory = load_list(alloc, view)?;
-    let blocks = blocks_of(alloc, &memory, first, count)?;
+    let blocks = blocks_of(alloc, &memory, first, if are_read { count } else { 0 })?;
     Ok(LastRows {
         memory,
         first,

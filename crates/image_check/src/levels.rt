@@ -245,9 +245,9 @@ fn first_level(known: &Known<'_>) -> Option<(u32, u8)>
 }
 
 /// The address and the level of the first entry of a table that leads to a higher level, or to a lower one without meeting both tests with its row's slack: at the
-/// least address, at one address on the untaken edge before the taken one, and there for the least level, over all rows. None exactly where all are safe. Reads each
-/// word of the keyed segment once, and then fewer than 64 for an exit, however many rows its table has; takes the memory of the foreign image, and twice that
-/// of its keyed segment, while it looks. Err only for want of memory.
+/// least address, at one address on the untaken edge before the taken one, and there for the least level, over all rows. None exactly where all are safe. Where a
+/// counter counts a loop, reads each word of the keyed segment once, and then fewer than 64 for an exit, however many rows its table has; takes the memory of the
+/// foreign image, and then twice that of its keyed segment, while it looks. Err only for want of memory.
 pub fn first_bad_level(
     alloc: Global,
     original: &Original<'_>,
@@ -261,7 +261,7 @@ pub fn first_bad_level(
         AreKnown image r.view o.graph o.tree r.sites r.owners worst.now least.now found w n charged →
         IfOk result (λ answer. IsLevelsAnswer o.power r.view o.graph (loops o.graph o.tree) (owner_by r.owners) w n charged found answer) }
 {
-    let rows = read_rows(alloc, &received.view)?;
+    let rows = read_rows(alloc, &received.view, received.owners.has_any())?;
     Ok(first_level(&Known {
         power: &original.power,
         rows: &rows,

@@ -1,6 +1,7 @@
 //! Which loop each counter counts.
 
-ghost use Rattle.std.specs.Prelude.{◌≡◌, ◌<◌, ℕ, Some, length, IfOk};
+ghost use Rattle.std.specs.Prelude.{◌≡◌, ◌<◌, ℕ, Some, length, is_some, IfOk};
+ghost use Rattle.std.specs.List.{list_any};
 ghost use Rattle.scale_base.specs.Image.{Image};
 ghost use Rattle.flow_graph.specs.FlowGraph.{graph as graph_seen};
 ghost use Rattle.loop_forest.specs.Tree.{loops};
@@ -41,6 +42,13 @@ impl OwnerList {
         } else {
             None
         }
+    }
+
+    /// Whether some counter counts a loop.
+    pub fn has_any(&self) -> bool
+        ensures { result ≡ list_any is_some self.now }
+    {
+        self.owners.iter().any(|owner| owner.is_some())
     }
 }
 

@@ -82,7 +82,7 @@ pub fn extra_weights(
     ensures weights { IfOk result (AreExtraWeights costs.now graph.now sites.now) }
     ensures size { IfOk result (λ w. length w ≡ length graph.now.code.edges) }
 {
-    let mut weights = Vec::new(alloc);
+    let mut weights = Vec::with_capacity(alloc, graph.edge_count())?;
     for e in 0..graph.edge_count() {
         weights.push(extra_cycles(graph, sites, costs, e))?;
     }
@@ -103,7 +103,7 @@ pub fn stored_weights(
 {
     small_costs(costs);
     let base = graph.base_weights(alloc, costs)?;
-    let mut weights = Vec::new(alloc);
+    let mut weights = Vec::with_capacity(alloc, graph.edge_count())?;
     for e in 0..graph.edge_count() {
         weights.push(*base.get(e) + extra_cycles(graph, sites, costs, e))?;
     }

@@ -128,7 +128,7 @@ fn all_marks(
     ensures { IfOk result (λ marks. AreMarks marking.now.graph.now marking.now.tree.now marking.now.counted.now slacks.now
         marking.now.min_gain (length marking.now.graph.now.code.edges) (map (λ m. m.items) marks.items)) }
 {
-    let mut marks = Vec::new(alloc);
+    let mut marks = Vec::with_capacity(alloc, marking.graph.edge_count())?;
     for e in 0..marking.graph.edge_count() {
         let branch = is_branch(marking.graph.edge(e).kind);
         marks.push(marks_of_edge(alloc, marking, branch, slacks[e], e)?)?;
@@ -148,7 +148,7 @@ fn wanted_marks(
     ensures { IfOk result (λ marks. AreMarksBy (marks_where marking.now.graph.now marking.now.tree.now marking.now.counted.now
         (flag_at wanted.now)) (length marking.now.graph.now.code.edges) (map (λ m. m.items) marks.items)) }
 {
-    let mut marks = Vec::new(alloc);
+    let mut marks = Vec::with_capacity(alloc, marking.graph.edge_count())?;
     for e in 0..marking.graph.edge_count() {
         marks.push(marks_of_edge(alloc, marking, wanted[e], 0, e)?)?;
     }
@@ -193,7 +193,7 @@ fn all_jumps(alloc: Global, graph: &CodeGraph, marks: &[Vec<Mark>]) -> Result<Ve
     requires size { length marks.now ≡ length graph.now.code.edges }
     ensures { IfOk result (λ jumps. AreJumps graph.now (map (λ m. m.items) marks.now) (length graph.now.code.edges) jumps.items) }
 {
-    let mut jumps = Vec::new(alloc);
+    let mut jumps = Vec::with_capacity(alloc, graph.edge_count())?;
     for e in 0..graph.edge_count() {
         jumps.push(jumps_over(graph, marks, e))?;
     }
@@ -264,7 +264,7 @@ fn formed_marks(
     ensures { IfOk result (λ marks. AreMarksBy (formed_where lowest.now tallied.now (marks_at_edge sites.now)) (length sites.now.marks)
         (map (λ m. m.items) marks.items)) }
 {
-    let mut marks = Vec::new(alloc);
+    let mut marks = Vec::with_capacity(alloc, sites.count())?;
     for e in 0..sites.count() {
         marks.push(form_marks(alloc, sites.few_marks(e), flag(lowest, e), tallied)?)?;
     }
@@ -303,7 +303,7 @@ impl Sites {
         ensures each { IfOk result (λ w. (e : ℕ) → e < length graph.now.code.edges →
             slice_index w e ≡ extra_of costs.now (slice_index self.now.jumps e) (marks_at_edge self.now e)) }
     {
-        let mut weights = Vec::new(alloc);
+        let mut weights = Vec::with_capacity(alloc, graph.edge_count())?;
         for e in 0..graph.edge_count() {
             weights.push(self.extra(e, costs))?;
         }
@@ -327,7 +327,7 @@ impl Sites {
     {
         cost::small_costs(costs);
         let base = graph.base_weights(alloc, costs)?;
-        let mut weights = Vec::new(alloc);
+        let mut weights = Vec::with_capacity(alloc, graph.edge_count())?;
         for e in 0..graph.edge_count() {
             weights.push(*base.get(e) + self.extra(e, costs))?;
         }

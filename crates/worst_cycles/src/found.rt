@@ -26,7 +26,7 @@ pub fn worst_of(
     ensures each { IfOk result (λ worst. (f : ℕ) → f < length entries.now → number_in_place worst.items f ≡
         (visit_at visits.now (number_in_place entries.now f)).plain + (visit_at visits.now (number_in_place entries.now f)).turns) }
 {
-    let mut worst = Vec::new(alloc);
+    let mut worst = Vec::with_capacity(alloc, entries.len())?;
     for k in entries {
         let visit = visits[*k];
         worst.push(visit.plain + visit.turns)?;
@@ -41,7 +41,7 @@ pub fn iterations_of(alloc: Global, tree: &LoopTree, visits: &[Visit]) -> Result
     ensures each { IfOk result (λ iterations. (k : ℕ) → k < length tree.now.headers →
         number_in_place iterations.items k ≡ (visit_at visits.now (number_in_place tree.now.headers k)).iteration) }
 {
-    let mut iterations = Vec::new(alloc);
+    let mut iterations = Vec::with_capacity(alloc, tree.loop_count())?;
     for l in 0..tree.loop_count() {
         iterations.push(visits[tree.header(l)].iteration)?;
     }

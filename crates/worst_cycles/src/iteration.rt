@@ -21,7 +21,7 @@ fn body_places(alloc: Global, body: &[usize], plan: &Plan) -> Result<Vec<usize>,
     requires within { (i : ℕ) → i < length body.now → number_in_place body.now i < length plan.now.places.items }
     ensures { IfOk result (λ steps. AreBodyPlaces body.now plan.now.places.items steps.items) }
 {
-    let mut steps = Vec::new(alloc);
+    let mut steps = Vec::with_capacity(alloc, body.len())?;
     for k in body {
         steps.push(plan.places[*k])?;
     }
@@ -61,10 +61,9 @@ pub fn rests_of(
     ensures { AnswersBy (λ x. x) result (AreRestsFound planned.now.graph.now planned.now.tree.now (by_edge planned.now.weights.now)
         planned.now.plan.now l) }
 {
-    let mut rests = Rests {
-        steps: body_places(alloc, planned.tree.body(l), planned.plan)?,
-        found: Vec::new(alloc),
-    };
+    let steps = body_places(alloc, planned.tree.body(l), planned.plan)?;
+    let found = Vec::with_capacity(alloc, steps.len())?;
+    let mut rests = Rests { steps, found };
     for m in 0..rests.steps.len() {
         let k = planned.plan.order[rests.steps[m]];
         let rest = rest_at_node(planned, visits, &rests, l, k);

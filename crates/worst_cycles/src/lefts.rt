@@ -75,7 +75,7 @@ fn plain_lefts(alloc: Global, visits: &[Visit]) -> Result<Vec<u64>, NoMemory>
     ensures size { IfOk result (λ left. length left.items ≡ length visits.now) }
     ensures each { IfOk result (λ left. (k : ℕ) → k < length visits.now → number_in_place left.items k ≡ (visit_at visits.now k).plain) }
 {
-    let mut left = Vec::new(alloc);
+    let mut left = Vec::with_capacity(alloc, visits.len())?;
     for visit in visits {
         left.push(visit.plain)?;
     }

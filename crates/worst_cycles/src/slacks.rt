@@ -48,7 +48,7 @@ pub fn slacks_of(
     ensures { IfOk result (λ slacks. AreSlacks visited.now.planned.graph.now visited.now.planned.tree.now
         (by_edge visited.now.planned.weights.now) slacks.items) }
 {
-    let mut slacks = Vec::new(alloc);
+    let mut slacks = Vec::with_capacity(alloc, visited.planned.graph.edge_count())?;
     for e in 0..visited.planned.graph.edge_count() {
         slacks.push(slack_of(visited, left, e))?;
     }
@@ -113,7 +113,7 @@ pub fn rests_behind(
     ensures { IfOk result (λ rests. AreRestsBehind visited.now.planned.graph.now visited.now.planned.tree.now
         (by_edge visited.now.planned.weights.now) rests.items) }
 {
-    let mut rests = Vec::new(alloc);
+    let mut rests = Vec::with_capacity(alloc, visited.planned.graph.edge_count())?;
     for e in 0..visited.planned.graph.edge_count() {
         rests.push(rest_of(visited, left, around, context, e))?;
     }
