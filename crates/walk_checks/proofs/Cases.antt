@@ -1,8 +1,9 @@
 -- What a table says of itself, and what is to show, case by case.
-use Rattle.std.proofs.Common.{◌≡◌, ℕ, ℤ, ◌<◌, ◌+◌, ◌*◌, ◌≤◌, ◌%◌, ◌^◌, ◌⊎◌, inl, inr, ⊎_elim, Bool, true, false, List, [], ◌∷◌, length, Option, Some, None, refl, sym, ap, ◌∙◌, subst, arith}
-use Rattle.std.specs.Prelude.{◌==◌, option_map, slice_get}
+use Rattle.std.proofs.Common.{◌≡◌, ℕ, ℤ, zero, suc, get_or, ◌<◌, ◌+◌, ◌*◌, ◌≤◌, ◌%◌, ◌^◌, ◌⊎◌, inl, inr, ⊎_elim, Bool, true, false, List, [], ◌∷◌, length, Option, Some, None, refl, sym, ap, ◌∙◌, subst, arith}
+use Rattle.std.specs.Prelude.{◌==◌, option_map, slice_get, IfSome}
 use Rattle.std.specs.List.{All, find}
 use Rattle.std.proofs.lemmas.Bool.{cond_both, eqb-true}
+use Rattle.std.proofs.lemmas.List.{get_or_default}
 use Rattle.std.proofs.lemmas.Option.{slice_get_within}
 use Rattle.scale_base.specs.declared.instruction.ImmOp.TheVariants.{Addi, Slli}
 use Rattle.scale_base.specs.declared.instruction.RegOp.TheVariants.{Add}
@@ -14,20 +15,24 @@ use Rattle.bound_laws.specs.Values.{Arc, IsRegister, Values}
 use Rattle.code_text.specs.Text.{Text}
 use Rattle.flow_graph.specs.FlowGraph.{graph}
 use Rattle.flow_graph.proofs.Laws.{less_same_more, some_is}
-use Rattle.stack_laws.specs.Areas.{IsAccess}
 use Rattle.stack_laws.specs.Stacks.{Stacks, IsLoadedTo, IsMissed, IsRestored, IsSafe, IsStoredFrom}
 use Rattle.stack_tables.specs.declared.claims.StackClaim.{StackClaim}
 use Rattle.value_checks.proofs.Laws.{once}
 use Rattle.stack_tables.specs.Tables.{address, stacks_in, text_in, values_in, IsStackClaim}
 use Rattle.stack_tables.proofs.Laws.{address_is}
-use Rattle.walk_areas.specs.Walking.{Place, Trace, WalkCertificate, aim, moved_by_number, multiplied, operand, pointer, sum_of_both, traced, IsAimed, IsBegun, IsMoved, IsPlaceBack, IsPlaceOver, IsRowOver, IsTurnBack, IsTurnOver, IsTouched, IsWider}
+use Rattle.walk_areas.specs.Walking.{Place, Trace, WalkCertificate, aim, moved_by_number, multiplied, operand, pointer, sum_of_both, traced, IsAimed, IsBegun, IsBeyond, IsGround, IsMoved, IsPlaceBack, IsPlaceOver, IsRowOver, IsTurnBack, IsTurnOver, IsTouched, IsWider}
 use Rattle.walk_areas.specs.Walking.IsRowOver.{kept, summed, added, shifted, loaded}
 use Rattle.walk_areas.specs.Walking.IsWordOver.{missed, stored}
 use Rattle.walk_checks.specs.declared.tables.WordTrace.{WordTrace}
 use Rattle.walk_checks.specs.declared.tables.WalkTable.{WalkTable}
 use Rattle.walk_checks.specs.declared.tables.WalkCase.{WalkCase}
-use Rattle.walk_checks.specs.Walked.{cert, certificate_in, certificate_of, place_view, trace_view, word_in, AreWalks, IsEdgeWalked, IsLiveSo, IsPlaceFound, IsPlaceFoundBack, IsRowFound, IsRowFoundBack, IsWalkCase, IsWordFound, IsWordFoundBack}
+use Rattle.walk_checks.specs.Walked.{cert, certificate_in, certificate_of, place_view, trace_view, word_in, AreWalks, IsApart, IsApartAt, IsEdgeWalked, IsHeldBy, IsLiveSo, IsPlaceFound, IsPlaceFoundBack, IsRowFound, IsRowFoundBack, IsShort, IsWalkCase, IsWordFound, IsWordFoundBack}
 use Rattle.walk_checks.proofs.Seen.{there}
+
+-- what holds of a value that is there follows from what else holds of it
+pub if_some : {A : Type 0} {P Q : A → Type 0} (o : Option A) → ((x : A) → P x → Q x) → IfSome o P → IfSome o Q
+if_some None f h = tt
+if_some (Some x) f h = f x h
 
 -- ---- what is found over an instruction, and behind a call
 
@@ -60,14 +65,32 @@ module _ (v : Values) (w : Stacks) (c : WalkCertificate) (a : ℕ) (i : Instr) (
   pub word_back_found : (to : ℕ) → IsSafe v w a to k → z ≡ c.word a k → IsWordFoundBack v w c a to k z
   word_back_found to is same b wider = inr (is, subst (IsWider b) same wider)
 
+-- ---- lists
+
+-- of each one up to a place, and of the one there
+pub one_so_far : {A : Type 0} (P : A → Type 0) (xs : List A) (n : ℕ) (x : A) → n < length xs → x ≡ get_or xs n x → P x → ((i : ℕ) (other : A) → i < n → P (get_or xs i other)) → (i : ℕ) (other : A) → i < n + 1 → P (get_or xs i other)
+one_so_far P xs n x within is here before i other lt = ⊎_elim
+    (λ (less : i < n). before i other less)
+    (λ (rest : (i ≡ n) ⊎ (n < i)). ⊎_elim
+    (λ (same : i ≡ n). subst (λ (k : ℕ). P (get_or xs k other)) (sym same) (subst P (is ∙ get_or_default xs n x other within) here))
+    (λ (after : n < i). let bad : ⊥ = omega (arith, lt, after) in absurd bad)
+    rest)
+    (less_same_more i n)
+
+-- what holds of each one holds of the one at a number
+pub each_at : {A : Type 0} (P : A → Type 0) (xs : List A) (k : ℕ) (x : A) → slice_get xs k ≡ Some x → All P xs → P x
+each_at P [] k x at all = let bad : ⊥ = cc in absurd bad
+each_at P (y ∷ xs) zero x at all = let same : y ≡ x = cc in subst P same (all 0 y (omega arith))
+each_at P (y ∷ xs) (suc k) x at all = each_at P xs k x at (λ j d lt. all (suc j) d (omega (arith, lt)))
+
 -- ---- words
 
 -- what holds of each word of which a row says something, and of those of which it says nothing, holds of each word
 pub each_word : (P : ℕ → Option Trace → Type 0) → ((k : ℕ) → P k None) → (row : List WordTrace) → All (λ (x : WordTrace). P x.number (Some (trace_view x.trace))) row → (k : ℕ) → P k (word_in row k)
 each_word P none [] all k = none k
 each_word P none (x ∷ xs) all k = cond_both (x.number == k) (Some x) (find (λ (y : WordTrace). y.number == k) xs) (λ o. P k (option_map (λ (y : WordTrace). trace_view y.trace) o))
-    (λ same. subst (λ n. P n (Some (trace_view x.trace))) (eqb-true x.number k same) all.0)
-    (λ other. each_word P none xs all.1 k)
+    (λ same. subst (λ n. P n (Some (trace_view x.trace))) (eqb-true x.number k same) (all 0 x (omega arith)))
+    (λ other. each_word P none xs (λ j d lt. all (suc j) d (omega (arith, lt))) k)
 
 -- ---- what a table says of itself
 
@@ -91,16 +114,28 @@ pub begun_seen : (c : WalkCase) (p : Place) (b z : Option Trace) → b ≡ z →
 unfolding certificate_in
 begun_seen c p b z same h = subst (IsBegun (cert c) p) same (h c.claim.now.graph.now.code.nodes)
 
+-- ---- the ground
+
+pub beyond_at : (x y z : Arc) (gap : ℕ) → Some y ≡ Some z → IsBeyond x y gap → IsBeyond x z gap
+beyond_at x y z gap same h = subst (λ q. IsBeyond x q gap) (some_is y z same) h
+
+pub apart_at : (t : WalkTable) (k : ℕ) (y x : Arc) → Some y ≡ Some x → ((j : ℕ) → j < length t.ground.items → IsApartAt t k y j) → (j : ℕ) → j < length t.ground.items → IsApartAt t k x j
+apart_at t k y x same h = subst (λ q. (j : ℕ) → j < length t.ground.items → IsApartAt t k q j) (some_is y x same) h
+
+pub ground_in : (areas : ℕ → Option Arc) (t : WalkTable) (found : List Arc) → ((k : ℕ) → slice_get found k ≡ areas k) → All (λ (x : Arc). IsHeldBy t.ground.items x) found → All (λ (x : Arc). IsShort t x) t.ground.items →
+    ((k : ℕ) → k < length t.ground.items → IsApart t k) → (nodes : List ℕ) → IsGround areas (certificate_of nodes t)
+ground_in areas t found same held short apart nodes = record {
+  holds = λ k x at. each_at (λ (y : Arc). IsHeldBy t.ground.items y) found k x (same k ∙ at) held;
+  short = λ k x at. each_at (λ (y : Arc). IsShort t y) t.ground.items k x at short;
+  apart = λ k j x y at there. apart k (slice_get_within t.ground.items k x at) x at j (slice_get_within t.ground.items j y there) y there;
+}
+
 -- ---- turns
 
-pub aimed_in : (c : WalkCase) (k : ℕ) (i : Instr) (r more : ℕ) (x y z : Option Trace) → IsAccess i r more → ((nodes : List ℕ) → x ≡ aim (certificate_of nodes c.table.now)) → y ≡ operand (values_in c.claim.now) (cert c) (address c.claim.now k) r → z ≡ moved_by_number y more →
-    IsWider x z → IsAimed (values_in c.claim.now) (cert c) (address c.claim.now k) i
-aimed_in c k i r more x y z access aims from same wider = record {
-  register = r;
-  more = more;
-  access = access;
-  aims = subst (λ q. IsWider q (moved_by_number (operand (values_in c.claim.now) (cert c) (address c.claim.now k) r) more)) (aim_seen c x aims) (subst (IsWider x) (same ∙ ap (λ q. moved_by_number q more) from) wider);
-}
+pub aims_in : (c : WalkCase) (k r more : ℕ) (x y z : Option Trace) → ((nodes : List ℕ) → x ≡ aim (certificate_of nodes c.table.now)) → y ≡ operand (values_in c.claim.now) (cert c) (address c.claim.now k) r → z ≡ moved_by_number y more →
+    IsWider x z → IsWider (aim (cert c)) (moved_by_number (operand (values_in c.claim.now) (cert c) (address c.claim.now k) r) more)
+aims_in c k r more x y z aims from same wider = subst (λ q. IsWider q (moved_by_number (operand (values_in c.claim.now) (cert c) (address c.claim.now k) r) more)) (aim_seen c x aims)
+    (subst (IsWider x) (same ∙ ap (λ q. moved_by_number q more) from) wider)
 
 pub turn_over_in : (c : WalkCase) (k : ℕ) (i : Instr) (x y : Option Trace) → IsPlaceFound (values_in c.claim.now) (stacks_in c.claim.now) (cert c) (address c.claim.now k) i (place_view c.table.now.first) x →
     IsPlaceFound (values_in c.claim.now) (stacks_in c.claim.now) (cert c) (address c.claim.now k) i (place_view c.table.now.second) y → IsWider x x → IsWider y y →
@@ -174,4 +209,3 @@ case_in c is at sized = record {
   header_is = sym (address_is c.claim.now c.header c.note.now.header at);
   sized = sized;
 }
-

@@ -205,6 +205,10 @@ IsHeldBy intervals area = (j : ℕ) × (y : Arc) × (slice_get intervals j ≡ S
 abbrev pub IsShort : WalkTable → Arc → Type 0
 IsShort t x = (x.more + t.least ≤ t.width) × (x.more + (t.least + t.spread) < 2 ^ 32)
 
--- nothing of one interval is within reach of another
-abbrev pub IsApartFrom : WalkTable → (k : ℕ) → Arc → Type 0
-IsApartFrom t k x = (j : ℕ) (y : Arc) → slice_get t.ground.items j ≡ Some y → (k ≡ j) ⊎ IsBeyond x y (t.least + t.spread)
+-- an interval, of number k, is that of number j, or that one is beyond it
+abbrev pub IsApartAt : WalkTable → (k : ℕ) → Arc → (j : ℕ) → Type 0
+IsApartAt t k x j = (y : Arc) → slice_get t.ground.items j ≡ Some y → (k ≡ j) ⊎ IsBeyond x y (t.least + t.spread)
+
+-- the same of each other one
+abbrev pub IsApart : WalkTable → (k : ℕ) → Type 0
+IsApart t k = (x : Arc) → slice_get t.ground.items k ≡ Some x → (j : ℕ) → j < length t.ground.items → IsApartAt t k x j

@@ -1,6 +1,6 @@
 //! What an instruction of a loop leaves of traces.
 
-ghost use Rattle.std.specs.Prelude.{◌≡◌, ◌<◌, true, length, IfSome};
+ghost use Rattle.std.specs.Prelude.{◌≡◌, ◌<◌, ◌^◌, true, length, IfSome};
 ghost use Rattle.stack_tables.specs.Tables.{stacks_in, values_in};
 ghost use Rattle.wrapped_intervals.specs.Small.{IsFoundOr};
 ghost use Rattle.walk_areas.specs.Walking as walking;
@@ -45,9 +45,17 @@ fn summed_over(case: &WalkCase<'_>, i: Instr, k: usize, r: u8) -> Option<Found>
         return None;
     }
     match operand(case, k, rs1) {
-        Some(z) => Some(moved(z, imm.cast_unsigned())),
+        Some(z) => Some(moved(&z, imm.cast_unsigned())),
         None => None,
     }
+}
+
+// The power of 2 by which a shift multiplies.
+fn power_of(n: u32) -> u32
+    requires { n < 32 }
+    ensures { result ≡ 2 ^ n }
+{
+    1u32 << n
 }
 
 // Of one that is shifted to the left.
@@ -71,7 +79,7 @@ fn shifted_over(case: &WalkCase<'_>, i: Instr, k: usize, r: u8) -> Option<Found>
         return None;
     }
     match operand(case, k, rs1) {
-        Some(z) => multiplied(z, 1u32 << (imm.cast_unsigned() % 32)),
+        Some(z) => multiplied(&z, power_of(imm.cast_unsigned() % 32)),
         None => None,
     }
 }
@@ -97,7 +105,7 @@ fn added_over(case: &WalkCase<'_>, i: Instr, k: usize, r: u8) -> Option<Found>
         return None;
     }
     match (operand(case, k, rs1), operand(case, k, rs2)) {
-        (Some(y), Some(z)) => sum_of_both(y, z),
+        (Some(y), Some(z)) => sum_of_both(&y, &z),
         _ => None,
     }
 }
@@ -179,7 +187,7 @@ pub fn is_row_over(case: &WalkCase<'_>, i: Instr, k: usize, r: u8, b: Option<Tra
         return true;
     }
     match row_over(case, i, k, r) {
-        Some(z) => is_wider_trace(b, z),
+        Some(z) => is_wider_trace(b, &z),
         None => false,
     }
 }
@@ -220,13 +228,7 @@ pub fn word_over(case: &WalkCase<'_>, i: Instr, k: usize, number: u32) -> Option
 }
 
 /// Whether a trace is one of a word behind it.
-pub fn is_word_over(
-    case: &WalkCase<'_>,
-    i: Instr,
-    k: usize,
-    number: u32,
-    b: Option<Trace>,
-) -> bool
+pub fn is_word_over(case: &WalkCase<'_>, i: Instr, k: usize, number: u32, b: Option<Trace>) -> bool
     requires case { IsWalkCase case.now }
     requires from { k < length case.now.claim.now.graph.now.code.nodes }
     ensures { result ≡ true → walking.IsWordOver (values_in case.now.claim.now) (stacks_in case.now.claim.now) (cert case.now)
@@ -236,7 +238,7 @@ pub fn is_word_over(
         return true;
     }
     match word_over(case, i, k, number) {
-        Some(z) => is_wider_trace(b, z),
+        Some(z) => is_wider_trace(b, &z),
         None => false,
     }
 }

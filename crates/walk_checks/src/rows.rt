@@ -1,6 +1,6 @@
 //! What stands at a node in a table of a walk.
 
-ghost use Rattle.std.specs.Prelude.{◌≡◌, ◌<◌, [], false, length, slice_get, IfSome};
+ghost use Rattle.std.specs.Prelude.{◌≡◌, ◌<◌, ℕ, [], false, length, slice_get, IfSome};
 ghost use Rattle.value_checks.specs.Tables.{or_other};
 ghost use Rattle.stack_tables.specs.Tables.{values_in};
 ghost use Rattle.wrapped_intervals.specs.Small.{IsKeptOr};
