@@ -168,9 +168,8 @@ fn written(scope: &Scope<'_>, known: &Standing, k: usize) -> Option<Value> {
 // The register by which an instruction accesses memory, and how far from what it holds.
 fn access_of(instr: Instr) -> Option<(u8, u32)> {
     match instr {
-        Instr::Load { rs1, offset, .. } | Instr::Store { rs1, offset, .. } => {
-            Some((rs1, offset.cast_unsigned()))
-        }
+        Instr::Load { rs1, offset, .. } => Some((rs1, offset.cast_unsigned())),
+        Instr::Store { rs1, offset, .. } => Some((rs1, offset.cast_unsigned())),
         _ => None,
     }
 }
