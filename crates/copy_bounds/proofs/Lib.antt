@@ -1,3 +1,4 @@
 pub mod Modes
 pub mod Pairs
 pub mod Steps
+pub mod Along

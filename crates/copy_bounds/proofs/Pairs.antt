@@ -15,8 +15,9 @@ use Rattle.graph_runs.specs.KeptSteps.{Carried, carried_first, source_of, kept_m
 use Rattle.graph_runs.specs.KeptRuns.{watched, kept_at}
 use Rattle.copy_bounds.specs.Copies.{Meaning}
 
--- what a word of the text stands for that is in the versioned image as it was
-pub record OwnWords (m : Meaning) : Type 0 where
+-- what a word of the text stands for that is in the versioned image as it was, and that no calls are opened where nothing of the original is done
+pub record IsMeaning (m : Meaning) : Type 0 where
+  pub passed : (a : ℕ) → m.is_extra a ≡ true → m.opened_at a ≡ Some (m.open_at a)
   pub real : (a : ℕ) → m.is_own a ≡ true → m.is_extra a ≡ false
   pub none_open : (a : ℕ) → m.is_own a ≡ true → m.open_at a ≡ []
   pub opened : (a : ℕ) → m.is_own a ≡ true → m.opened_at a ≡ Some []

@@ -24,14 +24,14 @@ use Rattle.bound_laws.specs.Turning.{unasked, Leads, Calls}
 use Rattle.bound_laws.proofs.Laws.{At, Onward, Way, fetched, onward, over_edge, into_call, back_to, site_small, site_back, not_broken}
 use Rattle.copy_bounds.specs.Copies.{Meaning, KeepsOpenCalls, CopyCertificate, IsCopy, CopiesLoop, counts_from}
 use Rattle.copy_bounds.proofs.Modes.{Mode, Counts, turned, along_edge, along_call, along_return, after_edge, after_call_to, other_called}
-use Rattle.copy_bounds.proofs.Pairs.{OwnWords, IsMadeAt, IsPair, kept_step}
+use Rattle.copy_bounds.proofs.Pairs.{IsMeaning, IsMadeAt, IsPair, kept_step}
 use Rattle.copy_bounds.proofs.Pairs.IsPair.{same, apart}
 
-from_round : (l : Loops) (k : ℕ) (o : Option ℕ) (n : ℕ) → cond (is_round l k o) n 0 ≡ cond (counts_from (l.inside k) o) n 0
+pub from_round : (l : Loops) (k : ℕ) (o : Option ℕ) (n : ℕ) → cond (is_round l k o) n 0 ≡ cond (counts_from (l.inside k) o) n 0
 from_round l k None n = refl
 from_round l k (Some v) n = refl
 
-module _ (m : Meaning) (own : OwnWords m) (t : Text) (env : Setting) (ok : IsTextOf t env) (code : Code) (is : IsCodeOf (kind_at t) t.entry code) (fine : HasNoBadWord (kind_at t) t.entry)
+module _ (m : Meaning) (own : IsMeaning m) (t : Text) (env : Setting) (ok : IsTextOf t env) (code : Code) (is : IsCodeOf (kind_at t) t.entry code) (fine : HasNoBadWord (kind_at t) t.entry)
     (s : State) (keeps : KeepsOpenCalls m t (text_graph t code)) (old l : Loops) where
   abbrev pub Copy : ℕ → Type 0
   Copy k = CopiesLoop m t (text_graph t code) old l k
@@ -40,14 +40,14 @@ module _ (m : Meaning) (own : OwnWords m) (t : Text) (env : Setting) (ok : IsTex
   ModeOf k c pc calls count other =
       Mode m t (text_graph t code) (l.header k) (l.inside k) (old.header c.number) (old.inside c.number) c.certificate c.is (old.bound c.number) pc calls count other
 
-  abbrev CountsOf : (k : ℕ) → Copy k → (a b other next : ℕ) → Type 0
+  abbrev pub CountsOf : (k : ℕ) → Copy k → (a b other next : ℕ) → Type 0
   CountsOf k c a b other next = Counts m t (text_graph t code) (l.header k) (l.inside k) (old.header c.number) (old.inside c.number) c.certificate c.is (old.bound c.number) a b other next
 
-  abbrev called_of : (k : ℕ) → Copy k → (b other : ℕ) → ℕ
+  abbrev pub called_of : (k : ℕ) → Copy k → (b other : ℕ) → ℕ
   called_of k c b other = other_called m t (text_graph t code) (l.header k) (l.inside k) (old.header c.number) (old.inside c.number) c.certificate c.is (old.bound c.number) b other
 
   -- what the original counts of the loop that is copied, by the way of the step
-  abbrev CountsBy : (k : ℕ) (c : Copy k) (f next : Carried) {pc to : ℕ} {calls after : List ℕ} {moved : Move} → Way (text_graph t code) pc to calls after moved → Type 0
+  abbrev pub CountsBy : (k : ℕ) (c : Copy k) (f next : Carried) {pc to : ℕ} {calls after : List ℕ} {moved : Move} → Way (text_graph t code) pc to calls after moved → Type 0
   CountsBy k c f next {pc = a} {to = b} (over_edge leads steps after moved) = CountsOf k c a b (f.counts c.number) (next.counts c.number)
   CountsBy k c f next {pc = a} {to = b} (into_call call after moved) = next.counts c.number ≡ called_of k c b (f.counts c.number)
   CountsBy k c f next {pc = a} {to = b} (back_to u e to us before after lt from returns call leads moved) = CountsOf k c u b (f.counts c.number) (next.counts c.number)
@@ -110,13 +110,14 @@ module _ (m : Meaning) (own : OwnWords m) (t : Text) (env : Setting) (ok : IsTex
       abbrev goes : Onward t env ok code is fine w u held.at.calls rs y.moved
       goes = onward t env ok code is fine w held.d.returns rs held.at y went returns
 
-      pub step_on : next.returns ≡ m.open_at u.pc ++ rs → AreWithin old next.counts → ((k : ℕ) (c : Copy k) → CountsBy k c f next goes.way) → Held (suc n) u next
+      pub step_on : ((after : List ℕ) → Way (text_graph t code) w.pc u.pc held.at.calls after y.moved → next.returns ≡ m.open_at u.pc ++ rs) → AreWithin old next.counts →
+          ((k : ℕ) (c : Copy k) (after : List ℕ) (way : Way (text_graph t code) w.pc u.pc held.at.calls after y.moved) → CountsBy k c f next way) → Held (suc n) u next
       step_on opened few counts = record {
         d = then;
         kept = kept_step env s l n ys w y (Some held.d) runs went held.kept ∙ (ap (keeps_counts l then.counts y) returns ∙ cond-false _ _ _ whole);
         counted = counted;
         at = goes.at;
-        opened = opened;
+        opened = opened goes.at.calls goes.way;
         few = few;
         modes = modes;
       }
@@ -128,7 +129,7 @@ module _ (m : Meaning) (own : OwnWords m) (t : Text) (env : Setting) (ok : IsTex
           counted = kept_step env s (unasked l) n ys w y (Some held.d) runs went held.counted ∙ ap (keeps_counts (unasked l) then.counts y) returns
 
           modes : (k : ℕ) (c : Copy k) → ModeOf k c u.pc goes.at.calls (then.counts k) (next.counts c.number)
-          modes k c = mode_on w u held.d f next y held.at here there k c (held.few c.number c.few) goes.at.calls goes.way (counts k c) (held.modes k c)
+          modes k c = mode_on w u held.d f next y held.at here there k c (held.few c.number c.few) goes.at.calls goes.way (counts k c goes.at.calls goes.way) (held.modes k c)
 
           within : (k : ℕ) → k < l.loops → then.counts k ≤ l.bound k
           within k kl = ⊎_elim

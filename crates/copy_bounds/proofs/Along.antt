@@ -1,0 +1,222 @@
+-- Steps side by side, from the start on: where the original's are kept, those of the versioned image are.
+use Rattle.std.proofs.Common.{◌≡◌, ℕ, suc, ◌+◌, ◌<◌, ◌≤◌, ◌^◌, Bool, true, false, cond, ◌⊎◌, inl, inr, ⊎_elim, List, [], ◌∷◌, ◌++◌, length, map, nat_eq, refl, sym, ◌∙◌, ap, subst, arith, Option, Some, None}
+use Rattle.scale_base.specs.declared.instruction.Instr.{Instr}
+use Rattle.scale_base.specs.declared.stepping.Move.{Move}
+use Rattle.scale_base.specs.declared.stepping.Move.TheVariants.{Local, Call, Return}
+use Rattle.scale_base.specs.declared.stepping.Stepped.{Stepped}
+use Rattle.scale_base.specs.declared.stepping.StepEnd.TheVariants.{Went}
+use Rattle.scale_base.specs.State.{Setting, State}
+use Rattle.scale_base.specs.Step.{step, move_of}
+use Rattle.scale_base.specs.Run.{Run, GoesOn, begin, run}
+use Rattle.cost_theory.specs.Graph.{Graph, Loops, AreWithin, count_step, is_round}
+use Rattle.cost_theory.specs.Reached.{Code, IsCodeOf, HasNoBadWord, Reached}
+use Rattle.cost_theory.specs.Reached.Reached.{main}
+use Rattle.code_text.specs.Text.{Text, instr_at, kind_at}
+use Rattle.code_text.specs.TextGraph.{text_graph}
+use Rattle.graph_runs.specs.TextStates.{IsTextOf, IsOverText}
+use Rattle.graph_runs.specs.RunTransitions.{after_call, IsStack}
+use Rattle.graph_runs.specs.ReturnAddresses.{returns_by, returns_after}
+use Rattle.graph_runs.specs.KeptSteps.{Carried, carried_first, source_of, counts_after, kept_more}
+use Rattle.graph_runs.specs.KeptRuns.{kept_at}
+use Rattle.graph_runs.proofs.Laws.{went_at, step_done, IsTrap, IsDone, EndsBy, kept_parts}
+use Rattle.bound_laws.specs.Turning.{unasked, Leads, Calls}
+use Rattle.bound_laws.proofs.Laws.{At, Way, fetched, over_edge, into_call, back_to, site_small, site_back}
+use Rattle.copy_bounds.specs.Copies.{Meaning, KeepsOpenCalls, CopiesLoop, counts_from}
+use Rattle.copy_bounds.proofs.Modes.{Counts, mode_first, other_after}
+use Rattle.copy_bounds.proofs.Pairs.{IsMeaning, IsMadeAt, IsPair, ArePaired, LastStep, snoc_length, last_step, kept_along, kept_last}
+use Rattle.copy_bounds.proofs.Pairs as pairs
+use Rattle.copy_bounds.proofs.Pairs.IsPair.{same, apart}
+use Rattle.copy_bounds.proofs.Pairs.ArePaired.{none, passed, both}
+use Rattle.copy_bounds.proofs.Steps.{Copy, CountsBy, Held, IsKept, ModeOf, step_on, from_round}
+
+module _ (m : Meaning) (own : IsMeaning m) (t : Text) (env : Setting) (ok : IsTextOf t env) (code : Code) (is : IsCodeOf (kind_at t) t.entry code) (fine : HasNoBadWord (kind_at t) t.entry)
+    (s : State) (keeps : KeepsOpenCalls m t (text_graph t code)) (old l : Loops) where
+  abbrev CopyOf : ℕ → Type 0
+  CopyOf k = Copy m own t env ok code is fine s keeps old l k
+
+  abbrev CountsFor : (k : ℕ) (c : CopyOf k) (f next : Carried) {pc to : ℕ} {calls after : List ℕ} {moved : Move} → Way (text_graph t code) pc to calls after moved → Type 0
+  CountsFor k c f next way = CountsBy m own t env ok code is fine s keeps old l k c f next way
+
+  abbrev pub HeldAt : ℕ → State → Carried → Type 0
+  HeldAt n w f = Held m own t env ok code is fine s keeps old l n w f
+
+  abbrev pub KeptAlone : ℕ → Type 0
+  KeptAlone k = IsKept m own t env ok code is fine s keeps old l k
+
+  module _ (late : (k : ℕ) → k < l.loops → l.least_trips k ≡ 0) (each : (k : ℕ) → k < l.loops → KeptAlone k ⊎ CopyOf k) where
+    module _ (n : ℕ) (ys : List Stepped) (w : State) (runs : run env s n ≡ record { steps = ys; state = w; standing = GoesOn }) (y : Stepped) (went : (step env w).end ≡ Went y) (f : Carried) (held : HeldAt n w f) where
+      abbrev u : State
+      u = (step env w).state
+
+      here : y.pc ≡ w.pc
+      here = (went_at env w y went).0
+
+      there : u.pc ≡ y.next
+      there = (went_at env w y went).1
+
+      abbrev d : Carried
+      d = held.d
+
+      local_returns : y.moved ≡ Local → returns_after d.returns y ≡ Some d.returns
+      local_returns moved = ap (λ q. returns_by q d.returns y) moved
+
+      -- ---- a step that stands for none
+
+      extra_local : m.is_extra y.pc ≡ true → y.moved ≡ Local
+      extra_local extra = ⊎_elim
+          (λ (trap : IsTrap (step env w).end). absurd (subst IsTrap went trap))
+          (λ (done : (i : Instr) × IsDone env w i (step env w).end (step env w).state).
+          let ends : EndsBy done.0 w (Went y) (step env w).state = subst (λ e. EndsBy done.0 w e (step env w).state) went done.1.ends in
+          let read : instr_at t w.pc ≡ Some done.0 = sym (fetched t env ok code is fine w d.returns held.at) ∙ done.1.instr in
+          ends.moved ∙ keeps.passing w.pc done.0 read (ap m.is_extra (sym here) ∙ extra)) (step_done env w)
+
+      pub extra_on : m.is_extra y.pc ≡ true → HeldAt (suc n) u f
+      extra_on extra = step_on m own t env ok code is fine s keeps old l late each n ys w runs y went f f held d.returns (local_returns moved) opened held.few counts
+        where
+          moved : y.moved ≡ Local
+          moved = extra_local extra
+
+          at_w : m.is_extra w.pc ≡ true
+          at_w = ap m.is_extra (sym here) ∙ extra
+
+          counts : (k : ℕ) (c : CopyOf k) (after : List ℕ) (way : Way (text_graph t code) w.pc u.pc held.at.calls after y.moved) → CountsFor k c f f way
+          counts k c after (over_edge leads steps same_calls local) = inl (at_w, refl)
+          counts k c after (into_call call more_calls called) = let bad : Local ≡ Call = sym moved ∙ called in let never : ⊥ = cc in absurd never
+          counts k c after (back_to v e to us before less_calls lt from returns call leads back) = let bad : Local ≡ Return = sym moved ∙ back in let never : ⊥ = cc in absurd never
+
+          opened : (after : List ℕ) → Way (text_graph t code) w.pc u.pc held.at.calls after y.moved → f.returns ≡ m.open_at u.pc ++ d.returns
+          opened after (over_edge leads steps same_calls local) =
+              let stay : Some (m.open_at w.pc) ≡ Some (m.open_at u.pc) = sym (own.passed w.pc at_w) ∙ keeps.along w.pc u.pc leads in
+              let alike : m.open_at w.pc ≡ m.open_at u.pc = cc in
+              held.opened ∙ ap (λ rs. rs ++ d.returns) alike
+          opened after (into_call call more_calls called) = let bad : Local ≡ Call = sym moved ∙ called in let never : ⊥ = cc in absurd never
+          opened after (back_to v e to us before less_calls lt from returns call leads back) = let bad : Local ≡ Return = sym moved ∙ back in let never : ⊥ = cc in absurd never
+
+      -- ---- a step of both
+
+      module _ (x : Stepped) (next : Carried) (returns : returns_after f.returns x ≡ Some next.returns) (counted : counts_after old f x ≡ next.counts) (few : AreWithin old next.counts)
+          (real : m.is_extra y.pc ≡ false) (to : m.text_at y.next ≡ x.next) where
+        real_w : m.is_extra w.pc ≡ false
+        real_w = ap m.is_extra (sym here) ∙ real
+
+        to_u : m.text_at u.pc ≡ x.next
+        to_u = ap m.text_at there ∙ to
+
+        -- what the original counts of the loop that is copied, by where its step comes from
+        other_counts : (k : ℕ) (c : CopyOf k) (o : Option ℕ) → source_of x.moved x.pc f.returns ≡ o → next.counts c.number ≡ count_step old o (Some (m.text_at u.pc)) f.counts c.number
+        other_counts k c o source =
+            sym (ap (λ cs. cs c.number) counted)
+            ∙ (ap (λ q. count_step old q (Some x.next) f.counts c.number) source
+            ∙ ap (λ v. count_step old o (Some v) f.counts c.number) (sym to_u))
+
+        real_counts : (k : ℕ) (c : CopyOf k) (a : ℕ) → source_of x.moved x.pc f.returns ≡ m.source_at a →
+            next.counts c.number ≡ cond (nat_eq (m.text_at u.pc) (old.header c.number)) (cond (counts_from (old.inside c.number) (m.source_at a)) (f.counts c.number + 1) 0) (f.counts c.number)
+        real_counts k c a source =
+            other_counts k c (m.source_at a) source
+            ∙ ap (λ n. cond (nat_eq (m.text_at u.pc) (old.header c.number)) n (f.counts c.number)) (from_round old c.number (m.source_at a) (f.counts c.number + 1))
+
+        -- in a copy
+        apart_on : y.moved ≡ Local → IsMadeAt m y.pc x → HeldAt (suc n) u next
+        apart_on moved made = step_on m own t env ok code is fine s keeps old l late each n ys w runs y went f next held d.returns (local_returns moved) opened few counts
+          where
+            made_w : IsMadeAt m w.pc x
+            made_w = subst (λ a. IsMadeAt m a x) here made
+
+            counts : (k : ℕ) (c : CopyOf k) (after : List ℕ) (way : Way (text_graph t code) w.pc u.pc held.at.calls after y.moved) → CountsFor k c f next way
+            counts k c after (over_edge leads steps same_calls local) =
+                inr (real_w, real_counts k c w.pc (ap (λ rs. source_of x.moved x.pc rs) held.opened ∙ made_w.source d.returns (m.open_at u.pc) (keeps.along w.pc u.pc leads)))
+            counts k c after (into_call call more_calls called) = let bad : Local ≡ Call = sym moved ∙ called in let never : ⊥ = cc in absurd never
+            counts k c after (back_to v e to us before less_calls lt from returns call leads back) = let bad : Local ≡ Return = sym moved ∙ back in let never : ⊥ = cc in absurd never
+
+            opened : (after : List ℕ) → Way (text_graph t code) w.pc u.pc held.at.calls after y.moved → next.returns ≡ m.open_at u.pc ++ d.returns
+            opened after (over_edge leads steps same_calls local) =
+                made_w.returns d.returns (m.open_at u.pc) next.returns (keeps.along w.pc u.pc leads) (ap (λ rs. returns_after rs x) (sym held.opened) ∙ returns)
+            opened after (into_call call more_calls called) = let bad : Local ≡ Call = sym moved ∙ called in let never : ⊥ = cc in absurd never
+            opened after (back_to v e to us before less_calls lt from returns call leads back) = let bad : Local ≡ Return = sym moved ∙ back in let never : ⊥ = cc in absurd never
+
+        -- in the text
+        same_on : y ≡ x → m.is_own y.pc ≡ true → HeldAt (suc n) u next
+        same_on e is_own = step_on m own t env ok code is fine s keeps old l late each n ys w runs y went f next held next.returns same_returns opened few counts
+          where
+            own_w : m.is_own w.pc ≡ true
+            own_w = ap m.is_own (sym here) ∙ is_own
+
+            alike : f.returns ≡ d.returns
+            alike = held.opened ∙ ap (λ rs. rs ++ d.returns) (own.none_open w.pc own_w)
+
+            same_returns : returns_after d.returns y ≡ Some next.returns
+            same_returns = ap (λ rs. returns_after rs y) (sym alike) ∙ (ap (returns_after f.returns) e ∙ returns)
+
+            source : (o : Option ℕ) → source_of y.moved y.pc f.returns ≡ o → source_of x.moved x.pc f.returns ≡ o
+            source o h = ap (λ q. source_of q.moved q.pc f.returns) (sym e) ∙ h
+
+            counts : (k : ℕ) (c : CopyOf k) (after : List ℕ) (way : Way (text_graph t code) w.pc u.pc held.at.calls after y.moved) → CountsFor k c f next way
+            counts k c after (over_edge leads steps same_calls local) =
+                inr (real_w, real_counts k c w.pc (source (m.source_at w.pc) (ap (λ q. source_of q y.pc f.returns) local ∙ (ap Some here ∙ sym (own.source w.pc own_w)))))
+            counts k c after (into_call call more_calls called) = other_counts k c None (source None (ap (λ q. source_of q y.pc f.returns) called))
+            counts k c after (back_to v e to us before less_calls lt from returns call leads back) =
+                let own_v : m.is_own v ≡ true = (keeps.called v to call).0 in
+                let stack : IsStack (kind_at t) t.entry held.at.function (v ∷ us) = subst (λ q. IsStack (kind_at t) t.entry held.at.function q) before held.at.stack in
+                let small : v < 2 ^ 32 = site_small t env ok code is fine held.at.function v us stack in
+                let from_v : source_of y.moved y.pc f.returns ≡ Some v =
+                ap (λ q. source_of q y.pc f.returns) back ∙ (ap (λ q. source_of Return y.pc q) (alike ∙ (held.at.returns ∙ ap (map after_call) before)) ∙ ap Some (site_back v small)) in
+                inr (own.real v own_v, real_counts k c v (source (m.source_at v) (from_v ∙ sym (own.source v own_v))))
+
+            none_there : (after : List ℕ) → Way (text_graph t code) w.pc u.pc held.at.calls after y.moved → m.open_at u.pc ≡ []
+            none_there after (over_edge leads steps same_calls local) =
+                let stay : Some [] ≡ Some (m.open_at u.pc) = sym (own.opened w.pc own_w) ∙ keeps.along w.pc u.pc leads in
+                let r : [] ≡ m.open_at u.pc = cc in sym r
+            none_there after (into_call call more_calls called) = (keeps.called w.pc u.pc call).1
+            none_there after (back_to v e to us before less_calls lt from returns call leads back) =
+                let stay : Some [] ≡ Some (m.open_at u.pc) = sym (own.opened v (keeps.called v to call).0) ∙ keeps.along v u.pc leads in
+                let r : [] ≡ m.open_at u.pc = cc in sym r
+
+            opened : (after : List ℕ) → Way (text_graph t code) w.pc u.pc held.at.calls after y.moved → next.returns ≡ m.open_at u.pc ++ next.returns
+            opened after way = ap (λ rs. rs ++ next.returns) (sym (none_there after way))
+
+        pub both_on : IsPair m x y → HeldAt (suc n) u next
+        both_on (same e is_own) = same_on e is_own
+        both_on (apart moved made) = apart_on moved made
+
+    -- ---- from the start on
+
+    module _ (over : IsOverText t s) (at_entry : s.pc ≡ t.entry) (open_first : m.open_at t.entry ≡ []) where
+      held_first : HeldAt 0 s carried_first
+      unfolding run kept_at
+      held_first = record {
+        d = carried_first;
+        kept = refl;
+        counted = refl;
+        at = record { function = t.entry; calls = []; over = over; reached = subst (λ v. Reached (kind_at t) t.entry t.entry v) (sym at_entry) main; stack = refl; returns = refl };
+        opened = ap (λ rs. rs ++ []) (sym (ap m.open_at at_entry ∙ open_first));
+        few = λ k kl. omega arith;
+        modes = λ k c. subst (λ v. ModeOf m own t env ok code is fine s keeps old l k c v [] 0 0) (sym at_entry)
+            (mode_first m t (text_graph t code) (l.header k) (l.inside k) (old.header c.number) (old.inside c.number) c.certificate c.is (old.bound c.number));
+      }
+
+      held_start : (w : State) → pairs.Leads env s [] w → (f : Carried) → kept_along old [] ≡ Some f → HeldAt 0 w f
+      unfolding run
+      held_start w leads f kept =
+          let at : s ≡ w = ap (λ (r : Run). r.state) leads in
+          let carried : carried_first ≡ f = cc in
+          subst (λ v. HeldAt 0 v f) at (subst (λ q. HeldAt 0 s q) carried held_first)
+
+      -- where the steps of the original are kept, so are those of the versioned image
+      pub held_along : (xs ys : List Stepped) → ArePaired m xs ys → (w : State) → pairs.Leads env s ys w → (f : Carried) → kept_along old xs ≡ Some f → HeldAt (length ys) w f
+      held_along xs ys none w leads f kept = held_start w leads f kept
+      held_along xs ys (passed {xs = zs} {ys = vs} y paired extra) w leads f kept =
+          let l = last_step env s vs y w leads in
+          let before = held_along zs vs paired l.before l.leads f kept in
+          let on = extra_on (length vs) vs l.before l.leads y l.went f before extra in
+          subst (λ n. HeldAt n w f) (sym (snoc_length vs y)) (subst (λ v. HeldAt (suc (length vs)) v f) l.state on)
+      held_along xs ys (both {xs = zs} {ys = vs} x y paired real pair to) w leads f kept =
+          let l = last_step env s vs y w leads in
+          by l (λ q e. held_along zs vs paired l.before l.leads q e) (kept_along old zs) refl
+        where
+          by : (l : LastStep env s vs y w) → ((q : Carried) → kept_along old zs ≡ Some q → HeldAt (length vs) l.before q) → (o : Option Carried) → kept_along old zs ≡ o → HeldAt (length (vs ++ y ∷ [])) w f
+          by l before None e = let bad : None ≡ Some f = sym (ap (λ q. kept_more old q x) e) ∙ (sym (kept_last old zs x) ∙ kept) in let never : ⊥ = cc in absurd never
+          by l before (Some q) e =
+              let more : kept_more old (Some q) x ≡ Some f = sym (ap (λ o. kept_more old o x) e) ∙ (sym (kept_last old zs x) ∙ kept) in
+              let p = kept_parts old (counts_after old q x) x (returns_after q.returns x) f more in
+              let on = both_on (length vs) vs l.before l.leads y l.went q (before q e) x f p.0 p.1 (subst (λ cs. AreWithin old cs) p.1 p.2) real to pair in
+              subst (λ n. HeldAt n w f) (sym (snoc_length vs y)) (subst (λ v. HeldAt (suc (length vs)) v f) l.state on)
