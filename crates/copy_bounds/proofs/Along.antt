@@ -1,14 +1,14 @@
 -- Steps side by side, from the start on: where the original's are kept, those of the versioned image are.
-use Rattle.std.proofs.Common.{◌≡◌, ℕ, suc, ◌+◌, ◌<◌, ◌≤◌, ◌^◌, Bool, true, false, cond, ◌⊎◌, inl, inr, ⊎_elim, List, [], ◌∷◌, ◌++◌, length, map, nat_eq, refl, sym, ◌∙◌, ap, subst, arith, Option, Some, None}
+use Rattle.std.proofs.Common.{◌≡◌, ℕ, zero, suc, ◌+◌, ◌<◌, ◌≤◌, ◌^◌, true, false, cond, ◌⊎◌, inl, inr, ⊎_elim, List, [], ◌∷◌, ◌++◌, length, map, nat_eq, refl, sym, ◌∙◌, ap, subst, arith, Option, Some, None}
 use Rattle.scale_base.specs.declared.instruction.Instr.{Instr}
 use Rattle.scale_base.specs.declared.stepping.Move.{Move}
 use Rattle.scale_base.specs.declared.stepping.Move.TheVariants.{Local, Call, Return}
 use Rattle.scale_base.specs.declared.stepping.Stepped.{Stepped}
 use Rattle.scale_base.specs.declared.stepping.StepEnd.TheVariants.{Went}
 use Rattle.scale_base.specs.State.{Setting, State}
-use Rattle.scale_base.specs.Step.{step, move_of}
-use Rattle.scale_base.specs.Run.{Run, GoesOn, begin, run}
-use Rattle.cost_theory.specs.Graph.{Graph, Loops, AreWithin, count_step, is_round}
+use Rattle.scale_base.specs.Step.{step}
+use Rattle.scale_base.specs.Run.{Run, GoesOn, run}
+use Rattle.cost_theory.specs.Graph.{Loops, AreWithin, count_step}
 use Rattle.cost_theory.specs.Reached.{Code, IsCodeOf, HasNoBadWord, Reached}
 use Rattle.cost_theory.specs.Reached.Reached.{main}
 use Rattle.code_text.specs.Text.{Text, instr_at, kind_at}
@@ -19,29 +19,29 @@ use Rattle.graph_runs.specs.ReturnAddresses.{returns_by, returns_after}
 use Rattle.graph_runs.specs.KeptSteps.{Carried, carried_first, source_of, counts_after, kept_more}
 use Rattle.graph_runs.specs.KeptRuns.{kept_at}
 use Rattle.graph_runs.proofs.Laws.{went_at, step_done, IsTrap, IsDone, EndsBy, kept_parts}
-use Rattle.bound_laws.specs.Turning.{unasked, Leads, Calls}
-use Rattle.bound_laws.proofs.Laws.{At, Way, fetched, over_edge, into_call, back_to, site_small, site_back}
-use Rattle.copy_bounds.specs.Copies.{Meaning, KeepsOpenCalls, CopiesLoop, counts_from}
-use Rattle.copy_bounds.proofs.Modes.{Counts, mode_first, other_after}
+use Rattle.bound_laws.proofs.Laws.{Way, fetched, over_edge, into_call, back_to, site_small, site_back}
+use Rattle.copy_bounds.specs.Copies.{Meaning, KeepsOpenCalls, counts_from}
+use Rattle.copy_bounds.proofs.Modes.{mode_first}
 use Rattle.copy_bounds.proofs.Pairs.{IsMeaning, IsMadeAt, IsPair, ArePaired, LastStep, snoc_length, last_step, kept_along, kept_last}
 use Rattle.copy_bounds.proofs.Pairs as pairs
 use Rattle.copy_bounds.proofs.Pairs.IsPair.{same, apart}
 use Rattle.copy_bounds.proofs.Pairs.ArePaired.{none, passed, both}
+use Rattle.copy_bounds.proofs.Gone.{kept_leads}
 use Rattle.copy_bounds.proofs.Steps.{Copy, CountsBy, Held, IsKept, ModeOf, step_on, from_round}
 
 module _ (m : Meaning) (own : IsMeaning m) (t : Text) (env : Setting) (ok : IsTextOf t env) (code : Code) (is : IsCodeOf (kind_at t) t.entry code) (fine : HasNoBadWord (kind_at t) t.entry)
-    (s : State) (keeps : KeepsOpenCalls m t (text_graph t code)) (old l : Loops) where
+    (s : State) (keeps : KeepsOpenCalls m t (text_graph t code)) (old l : Loops) (most : ℕ) where
   abbrev CopyOf : ℕ → Type 0
-  CopyOf k = Copy m own t env ok code is fine s keeps old l k
+  CopyOf k = Copy m own t env ok code is fine s keeps old l most k
 
   abbrev CountsFor : (k : ℕ) (c : CopyOf k) (f next : Carried) {pc to : ℕ} {calls after : List ℕ} {moved : Move} → Way (text_graph t code) pc to calls after moved → Type 0
-  CountsFor k c f next way = CountsBy m own t env ok code is fine s keeps old l k c f next way
+  CountsFor k c f next way = CountsBy m own t env ok code is fine s keeps old l most k c f next way
 
   abbrev pub HeldAt : ℕ → State → Carried → Type 0
-  HeldAt n w f = Held m own t env ok code is fine s keeps old l n w f
+  HeldAt n w f = Held m own t env ok code is fine s keeps old l most n w f
 
   abbrev pub KeptAlone : ℕ → Type 0
-  KeptAlone k = IsKept m own t env ok code is fine s keeps old l k
+  KeptAlone k = IsKept m own t env ok code is fine s keeps old l most k
 
   module _ (late : (k : ℕ) → k < l.loops → l.least_trips k ≡ 0) (each : (k : ℕ) → k < l.loops → KeptAlone k ⊎ CopyOf k) where
     module _ (n : ℕ) (ys : List Stepped) (w : State) (runs : run env s n ≡ record { steps = ys; state = w; standing = GoesOn }) (y : Stepped) (went : (step env w).end ≡ Went y) (f : Carried) (held : HeldAt n w f) where
@@ -71,7 +71,7 @@ module _ (m : Meaning) (own : IsMeaning m) (t : Text) (env : Setting) (ok : IsTe
           ends.moved ∙ keeps.passing w.pc done.0 read (ap m.is_extra (sym here) ∙ extra)) (step_done env w)
 
       pub extra_on : m.is_extra y.pc ≡ true → HeldAt (suc n) u f
-      extra_on extra = step_on m own t env ok code is fine s keeps old l late each n ys w runs y went f f held d.returns (local_returns moved) opened held.few counts
+      extra_on extra = step_on m own t env ok code is fine s keeps old l most late each n ys w runs y went f f held d.returns (local_returns moved) opened held.few held.deep counts
         where
           moved : y.moved ≡ Local
           moved = extra_local extra
@@ -94,7 +94,7 @@ module _ (m : Meaning) (own : IsMeaning m) (t : Text) (env : Setting) (ok : IsTe
 
       -- ---- a step of both
 
-      module _ (x : Stepped) (next : Carried) (returns : returns_after f.returns x ≡ Some next.returns) (counted : counts_after old f x ≡ next.counts) (few : AreWithin old next.counts)
+      module _ (x : Stepped) (next : Carried) (returns : returns_after f.returns x ≡ Some next.returns) (counted : counts_after old f x ≡ next.counts) (few : AreWithin old next.counts) (deep : length next.returns ≤ most)
           (real : m.is_extra y.pc ≡ false) (to : m.text_at y.next ≡ x.next) where
         real_w : m.is_extra w.pc ≡ false
         real_w = ap m.is_extra (sym here) ∙ real
@@ -117,7 +117,7 @@ module _ (m : Meaning) (own : IsMeaning m) (t : Text) (env : Setting) (ok : IsTe
 
         -- in a copy
         apart_on : y.moved ≡ Local → IsMadeAt m y.pc x → HeldAt (suc n) u next
-        apart_on moved made = step_on m own t env ok code is fine s keeps old l late each n ys w runs y went f next held d.returns (local_returns moved) opened few counts
+        apart_on moved made = step_on m own t env ok code is fine s keeps old l most late each n ys w runs y went f next held d.returns (local_returns moved) opened few deep counts
           where
             made_w : IsMadeAt m w.pc x
             made_w = subst (λ a. IsMadeAt m a x) here made
@@ -136,7 +136,7 @@ module _ (m : Meaning) (own : IsMeaning m) (t : Text) (env : Setting) (ok : IsTe
 
         -- in the text
         same_on : y ≡ x → m.is_own y.pc ≡ true → HeldAt (suc n) u next
-        same_on e is_own = step_on m own t env ok code is fine s keeps old l late each n ys w runs y went f next held next.returns same_returns opened few counts
+        same_on e is_own = step_on m own t env ok code is fine s keeps old l most late each n ys w runs y went f next held next.returns same_returns opened few deep counts
           where
             own_w : m.is_own w.pc ≡ true
             own_w = ap m.is_own (sym here) ∙ is_own
@@ -181,6 +181,11 @@ module _ (m : Meaning) (own : IsMeaning m) (t : Text) (env : Setting) (ok : IsTe
     -- ---- from the start on
 
     module _ (over : IsOverText t s) (at_entry : s.pc ≡ t.entry) (open_first : m.open_at t.entry ≡ []) where
+      shallow_first : (i : ℕ) (c : Carried) → i ≤ 0 → kept_at env s l i ≡ Some c → length c.returns ≤ most
+      unfolding kept_at
+      shallow_first zero c le e = let is : carried_first ≡ c = cc in let size = ap (λ (q : Carried). length q.returns) is in omega (arith, size)
+      shallow_first (suc i) c le e = absurd (omega (arith, le))
+
       held_first : HeldAt 0 s carried_first
       unfolding run kept_at
       held_first = record {
@@ -190,7 +195,9 @@ module _ (m : Meaning) (own : IsMeaning m) (t : Text) (env : Setting) (ok : IsTe
         at = record { function = t.entry; calls = []; over = over; reached = subst (λ v. Reached (kind_at t) t.entry t.entry v) (sym at_entry) main; stack = refl; returns = refl };
         opened = ap (λ rs. rs ++ []) (sym (ap m.open_at at_entry ∙ open_first));
         few = λ k kl. omega arith;
-        modes = λ k c. subst (λ v. ModeOf m own t env ok code is fine s keeps old l k c v [] 0 0) (sym at_entry)
+        deep = omega arith;
+        shallow = λ i c le e. shallow_first i c le e;
+        modes = λ k c. subst (λ v. ModeOf m own t env ok code is fine s keeps old l most k c v [] 0 0) (sym at_entry)
             (mode_first m t (text_graph t code) (l.header k) (l.inside k) (old.header c.number) (old.inside c.number) c.certificate c.is (old.bound c.number));
       }
 
@@ -201,22 +208,29 @@ module _ (m : Meaning) (own : IsMeaning m) (t : Text) (env : Setting) (ok : IsTe
           let carried : carried_first ≡ f = cc in
           subst (λ v. HeldAt 0 v f) at (subst (λ q. HeldAt 0 s q) carried held_first)
 
-      -- where the steps of the original are kept, so are those of the versioned image
-      pub held_along : (xs ys : List Stepped) → ArePaired m xs ys → (w : State) → pairs.Leads env s ys w → (f : Carried) → kept_along old xs ≡ Some f → HeldAt (length ys) w f
-      held_along xs ys none w leads f kept = held_start w leads f kept
-      held_along xs ys (passed {xs = zs} {ys = vs} y paired extra) w leads f kept =
-          let l = last_step env s vs y w leads in
-          let before = held_along zs vs paired l.before l.leads f kept in
-          let on = extra_on (length vs) vs l.before l.leads y l.went f before extra in
-          subst (λ n. HeldAt n w f) (sym (snoc_length vs y)) (subst (λ v. HeldAt (suc (length vs)) v f) l.state on)
-      held_along xs ys (both {xs = zs} {ys = vs} x y paired real pair to) w leads f kept =
-          let l = last_step env s vs y w leads in
-          by l (λ q e. held_along zs vs paired l.before l.leads q e) (kept_along old zs) refl
-        where
-          by : (l : LastStep env s vs y w) → ((q : Carried) → kept_along old zs ≡ Some q → HeldAt (length vs) l.before q) → (o : Option Carried) → kept_along old zs ≡ o → HeldAt (length (vs ++ y ∷ [])) w f
-          by l before None e = let bad : None ≡ Some f = sym (ap (λ q. kept_more old q x) e) ∙ (sym (kept_last old zs x) ∙ kept) in let never : ⊥ = cc in absurd never
-          by l before (Some q) e =
-              let more : kept_more old (Some q) x ≡ Some f = sym (ap (λ o. kept_more old o x) e) ∙ (sym (kept_last old zs x) ∙ kept) in
-              let p = kept_parts old (counts_after old q x) x (returns_after q.returns x) f more in
-              let on = both_on (length vs) vs l.before l.leads y l.went q (before q e) x f p.0 p.1 (subst (λ cs. AreWithin old cs) p.1 p.2) real to pair in
-              subst (λ n. HeldAt n w f) (sym (snoc_length vs y)) (subst (λ v. HeldAt (suc (length vs)) v f) l.state on)
+      -- Where the steps of the original are kept, so are those of the versioned image. No more return addresses are open there.
+      module _ (one : Setting) (raw : State) (n : ℕ) (deep : (i : ℕ) (c : Carried) → i ≤ n → kept_at one raw old i ≡ Some c → length c.returns ≤ most) where
+        deep_there : (xs : List Stepped) (v : State) (f : Carried) → pairs.Leads one raw xs v → length xs ≤ n → kept_along old xs ≡ Some f → length f.returns ≤ most
+        deep_there xs v f leads few kept = deep (length xs) f few (kept_leads one raw old xs v leads ∙ kept)
+
+        pub held_along : (xs ys : List Stepped) → ArePaired m xs ys → (v : State) → pairs.Leads one raw xs v → length xs ≤ n → (w : State) → pairs.Leads env s ys w →
+            (f : Carried) → kept_along old xs ≡ Some f → HeldAt (length ys) w f
+        held_along xs ys none v raw_leads few w leads f kept = held_start w leads f kept
+        held_along xs ys (passed {xs = zs} {ys = vs} y paired extra) v raw_leads few w leads f kept =
+            let l = last_step env s vs y w leads in
+            let before = held_along zs vs paired v raw_leads few l.before l.leads f kept in
+            let on = extra_on (length vs) vs l.before l.leads y l.went f before extra in
+            subst (λ n. HeldAt n w f) (sym (snoc_length vs y)) (subst (λ v. HeldAt (suc (length vs)) v f) l.state on)
+        held_along xs ys (both {xs = zs} {ys = vs} x y paired real pair to) v raw_leads few w leads f kept =
+            let l = last_step env s vs y w leads in
+            let k = last_step one raw zs x v raw_leads in
+            let size = snoc_length zs x in
+            by l (λ q e. held_along zs vs paired k.before k.leads (omega (arith, few, size)) l.before l.leads q e) (kept_along old zs) refl
+          where
+            by : (l : LastStep env s vs y w) → ((q : Carried) → kept_along old zs ≡ Some q → HeldAt (length vs) l.before q) → (o : Option Carried) → kept_along old zs ≡ o → HeldAt (length (vs ++ y ∷ [])) w f
+            by l before None e = let bad : None ≡ Some f = sym (ap (λ q. kept_more old q x) e) ∙ (sym (kept_last old zs x) ∙ kept) in let never : ⊥ = cc in absurd never
+            by l before (Some q) e =
+                let more : kept_more old (Some q) x ≡ Some f = sym (ap (λ o. kept_more old o x) e) ∙ (sym (kept_last old zs x) ∙ kept) in
+                let p = kept_parts old (counts_after old q x) x (returns_after q.returns x) f more in
+                let on = both_on (length vs) vs l.before l.leads y l.went q (before q e) x f p.0 p.1 (subst (λ cs. AreWithin old cs) p.1 p.2) (deep_there (zs ++ x ∷ []) v f raw_leads few kept) real to pair in
+                subst (λ n. HeldAt n w f) (sym (snoc_length vs y)) (subst (λ v. HeldAt (suc (length vs)) v f) l.state on)

@@ -1,25 +1,25 @@
 -- What the addresses of a versioned image stand for is what the steps of its runs do.
-use Rattle.std.proofs.Common.{◌≡◌, ◌≢◌, ℕ, ◌+◌, ◌*◌, ◌<◌, ◌≤◌, Bool, true, false, not, cond, List, [], ◌∷◌, ◌++◌, length, refl, sym, ap, ◌∙◌, subst, arith, Option, Some, None}
-use Rattle.std.specs.Prelude.{◌==◌, ◌&&◌, ◌||◌, nat_le, nat_lt, is_some}
-use Rattle.std.proofs.lemmas.Bool.{cond-true, cond-false, and_parts, and_from, eqb-true, ne_eqb, le-leb, lt-ltb, leb-true, ltb-true, both_ways, not-true, false_from_ne_true}
+use Rattle.std.proofs.Common.{◌≡◌, ℕ, ◌+◌, ◌*◌, ◌<◌, ◌≤◌, Bool, true, false, not, List, [], ◌∷◌, ◌++◌, length, refl, sym, ap, ◌∙◌, subst, arith, Option, Some, None}
+use Rattle.std.specs.Prelude.{◌==◌, ◌&&◌, nat_le, nat_lt, is_some}
+use Rattle.std.proofs.lemmas.Bool.{cond-true, cond-false, eq-eqb, and_parts, and_from, eqb-true, ne_eqb, le-leb, lt-ltb, leb-true, ltb-true, both_ways, not-true, false_from_ne_true}
 use Rattle.scale_base.specs.declared.stepping.Move.TheVariants.{Local, Call, Return}
 use Rattle.scale_base.specs.declared.stepping.Stepped.{Stepped}
 use Rattle.scale_base.specs.Arith.{plus}
 use Rattle.scale_base.specs.Image.{Image}
-use Rattle.graph_runs.specs.ReturnAddresses.{returned, returns_by, returns_after}
+use Rattle.graph_runs.specs.ReturnAddresses.{returned, returns_by}
 use Rattle.graph_runs.specs.KeptSteps.{call_of, source_of}
 use Rattle.loop_versions.specs.declared.pieces.Piece.{Piece}
 use Rattle.loop_versions.specs.declared.pieces.Piece.TheVariants.{Copied, Branched, Jumped, Bridge, Guard, Entered, Returned}
 use Rattle.loop_versions.specs.declared.pieces.Site.{Site}
-use Rattle.loop_versions.specs.Pieces.{origin_of, piece_len, behind, piece_at, pieces_code}
+use Rattle.loop_versions.specs.Pieces.{origin_of, behind, piece_at, pieces_code}
 use Rattle.loop_versions.specs.Fitting.{origin, origin_by, calls_by, calls_round}
-use Rattle.loop_versions.specs.Follows.{in_block, is_extra_step}
+use Rattle.loop_versions.specs.Follows.{in_block}
 use Rattle.loop_versions.specs.Made.{IsVersioned}
 use Rattle.loop_versions.proofs.Laws.{fit_parts, len_some, placed, within}
 use Rattle.version_laws.proofs.Pairs.{is_local}
 use Rattle.version_laws.proofs.Pairs as versions
 use Rattle.version_laws.proofs.Pairs.IsPair.{as_it_was, in_copy, at_call, at_return}
-use Rattle.version_laws.proofs.Pairs.ArePaired as paired
+use Rattle.version_laws.proofs.Pairs.ArePaired.{none as none_there, passed as passed_there, both as both_there}
 use Rattle.copy_bounds.specs.Copies.{Meaning}
 use Rattle.copy_bounds.specs.Meanings.{piece_round, source_by, without_first, opened_by, text_at, is_extra, open_at, meaning}
 use Rattle.copy_bounds.proofs.Pairs.{IsMeaning, IsMadeAt, IsPair, ArePaired}
@@ -73,7 +73,7 @@ begins_at place (r ∷ rs) v p e = by (nat_le place v && nat_lt v (behind place 
         let both = and_parts (nat_le place v) (nat_lt v (behind place r)) is in
         record {
           from = place;
-          found = cond-true (place == place) (Some r) (piece_at (behind place r) rs place) (same_nat place) ∙ found;
+          found = cond-true (place == place) (Some r) (piece_at (behind place r) rs place) (eq-eqb place place refl) ∙ found;
           low = leb-true place v both.0;
           high = subst (λ (o : Piece). v < behind place o) this (ltb-true v (behind place r) both.1);
         }
@@ -87,9 +87,6 @@ begins_at place (r ∷ rs) v p e = by (nat_le place v && nat_lt v (behind place 
           low = b.low;
           high = b.high;
         }
-
-    same_nat : (n : ℕ) → (n == n) ≡ true
-    same_nat n = eq-eqb n n refl
 
 module _ (image versioned : Image) (pieces : List Piece) (sites : List Site) (base : ℕ) (h : IsVersioned image versioned pieces sites base) where
   -- outside the block there is none
@@ -129,6 +126,10 @@ module _ (image versioned : Image) (pieces : List Piece) (sites : List Site) (ba
 
   source_real : (v : ℕ) (o : Option Piece) → piece_round base pieces v ≡ o → m.source_at v ≡ source_by o (text_at pieces sites base v) (open_at pieces sites base v)
   source_real v o e = ap (λ q. source_by q (text_at pieces sites base v) (open_at pieces sites base v)) e
+
+  -- no inlined call is open outside
+  pub none_open_at : (v : ℕ) → in_block image versioned pieces sites base v ≡ false → m.open_at v ≡ []
+  none_open_at v off = open_of_none v (round_off v off)
 
   none_some : (o : Option Piece) → not (is_some o) ≡ true → o ≡ None
   none_some None e = refl
@@ -235,7 +236,7 @@ module _ (image versioned : Image) (pieces : List Piece) (sites : List Site) (ba
         apart moved_too (returned_at at to (round_of base pieces y.pc y.pc (Returned at to) found (omega arith) (omega arith)) moved)
 
   pub paired_of : (xs ys : List Stepped) → versions.ArePaired image versioned pieces sites base xs ys → ArePaired m xs ys
-  paired_of xs ys paired.none = none
-  paired_of xs ys (paired.passed {xs = zs} {ys = vs} y before extra) = passed y (paired_of zs vs before) extra
-  paired_of xs ys (paired.both {xs = zs} {ys = vs} x y before real pair outside to) =
+  paired_of xs ys none_there = none
+  paired_of xs ys (passed_there {xs = zs} {ys = vs} y before extra) = passed y (paired_of zs vs before) extra
+  paired_of xs ys (both_there {xs = zs} {ys = vs} x y before real pair outside to) =
       both x y (paired_of zs vs before) real (pair_of x y real pair) (text_next y.next x.next outside to)

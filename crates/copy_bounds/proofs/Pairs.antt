@@ -1,5 +1,5 @@
 -- The steps of the original's run and those of the versioned image's, side by side.
-use Rattle.std.proofs.Common.{◌≡◌, ℕ, suc, Bool, true, false, List, [], ◌∷◌, ◌++◌, length, refl, sym, ap, ◌∙◌, subst, Option, Some, None}
+use Rattle.std.proofs.Common.{◌≡◌, ℕ, suc, true, false, List, [], ◌∷◌, ◌++◌, length, refl, sym, ap, ◌∙◌, Option, Some}
 use Rattle.std.specs.List.{fold}
 use Rattle.std.proofs.lemmas.List.Sums.{fold-append}
 use Rattle.scale_base.specs.declared.stepping.Move.TheVariants.{Local}
@@ -7,7 +7,7 @@ use Rattle.scale_base.specs.declared.stepping.Stepped.{Stepped}
 use Rattle.scale_base.specs.declared.stepping.StepEnd.{StepEnd}
 use Rattle.scale_base.specs.declared.stepping.StepEnd.TheVariants.{Went, Exited, Trapped}
 use Rattle.scale_base.specs.State.{Setting, State}
-use Rattle.scale_base.specs.Step.{Outcome, step, goes}
+use Rattle.scale_base.specs.Step.{step}
 use Rattle.scale_base.specs.Run.{Run, Standing, GoesOn, HasExited, HasTrapped, one_more_by, ended, run}
 use Rattle.cost_theory.specs.Graph.{Loops}
 use Rattle.graph_runs.specs.ReturnAddresses.{returns_after}

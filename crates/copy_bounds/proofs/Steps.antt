@@ -1,38 +1,35 @@
 -- One step of the versioned image's run, alone or with one of the original's, keeps the counts of all copies.
-use Rattle.std.proofs.Common.{◌≡◌, ℕ, suc, ◌<◌, ◌≤◌, ◌^◌, Bool, true, false, cond, ◌⊎◌, inl, inr, ⊎_elim, List, [], ◌∷◌, ◌++◌, map, nat_eq, refl, sym, ◌∙◌, ap, subst, arith, Option, Some, None}
-use Rattle.scale_base.specs.declared.instruction.Instr.{Instr}
+use Rattle.std.proofs.Common.{◌≡◌, ℕ, suc, ◌+◌, ◌<◌, ◌≤◌, ◌^◌, false, cond, ◌⊎◌, ⊎_elim, List, ◌∷◌, ◌++◌, length, length-append, map, refl, sym, ◌∙◌, ap, subst, arith, Option, Some, None}
 use Rattle.scale_base.specs.declared.stepping.Move.{Move}
-use Rattle.scale_base.specs.declared.stepping.Move.TheVariants.{Local, Call, Return}
+use Rattle.scale_base.specs.declared.stepping.Move.TheVariants.{Return}
 use Rattle.scale_base.specs.declared.stepping.Stepped.{Stepped}
 use Rattle.scale_base.specs.declared.stepping.StepEnd.TheVariants.{Went}
-use Rattle.scale_base.specs.Arith.{plus}
 use Rattle.scale_base.specs.State.{Setting, State}
-use Rattle.scale_base.specs.Step.{step, move_of}
+use Rattle.scale_base.specs.Step.{step}
 use Rattle.scale_base.specs.Run.{GoesOn, run}
-use Rattle.cost_theory.specs.Graph.{Graph, Loops, AreWithin, count_step, is_round}
+use Rattle.cost_theory.specs.Graph.{Loops, AreWithin, count_step, is_round}
 use Rattle.cost_theory.specs.Reached.{Code, IsCodeOf, HasNoBadWord}
-use Rattle.code_text.specs.Text.{Text, instr_at, kind_at}
+use Rattle.code_text.specs.Text.{Text, kind_at}
 use Rattle.code_text.specs.TextGraph.{text_graph}
 use Rattle.graph_runs.specs.TextStates.{IsTextOf}
 use Rattle.graph_runs.specs.RunTransitions.{after_call, IsStack}
-use Rattle.graph_runs.specs.ReturnAddresses.{returns_by, returns_after}
-use Rattle.graph_runs.specs.KeptSteps.{Carried, call_of, source_of, counts_after, is_broken, keeps_counts, kept_more}
+use Rattle.graph_runs.specs.ReturnAddresses.{returns_after}
+use Rattle.graph_runs.specs.KeptSteps.{Carried, source_of, counts_after, is_broken, keeps_counts}
 use Rattle.graph_runs.specs.KeptRuns.{kept_at}
-use Rattle.graph_runs.proofs.Laws.{went_at, step_done, IsTrap, IsDone, EndsBy, AreLate}
+use Rattle.graph_runs.proofs.Laws.{went_at}
 use Rattle.std.proofs.lemmas.Bool.{cond-false}
-use Rattle.bound_laws.specs.Turning.{unasked, Leads, Calls}
-use Rattle.bound_laws.proofs.Laws.{At, Onward, Way, fetched, onward, over_edge, into_call, back_to, site_small, site_back, not_broken}
-use Rattle.copy_bounds.specs.Copies.{Meaning, KeepsOpenCalls, CopyCertificate, IsCopy, CopiesLoop, counts_from}
-use Rattle.copy_bounds.proofs.Modes.{Mode, Counts, turned, along_edge, along_call, along_return, after_edge, after_call_to, other_called}
-use Rattle.copy_bounds.proofs.Pairs.{IsMeaning, IsMadeAt, IsPair, kept_step}
-use Rattle.copy_bounds.proofs.Pairs.IsPair.{same, apart}
+use Rattle.bound_laws.specs.Turning.{unasked}
+use Rattle.bound_laws.proofs.Laws.{At, Onward, Way, onward, over_edge, into_call, back_to, site_small, site_back, not_broken}
+use Rattle.copy_bounds.specs.Copies.{Meaning, KeepsOpenCalls, CopiesLoop, counts_from}
+use Rattle.copy_bounds.proofs.Modes.{Mode, Counts, turned, along_edge, along_call, along_return, other_called}
+use Rattle.copy_bounds.proofs.Pairs.{IsMeaning, kept_step}
 
 pub from_round : (l : Loops) (k : ℕ) (o : Option ℕ) (n : ℕ) → cond (is_round l k o) n 0 ≡ cond (counts_from (l.inside k) o) n 0
 from_round l k None n = refl
 from_round l k (Some v) n = refl
 
 module _ (m : Meaning) (own : IsMeaning m) (t : Text) (env : Setting) (ok : IsTextOf t env) (code : Code) (is : IsCodeOf (kind_at t) t.entry code) (fine : HasNoBadWord (kind_at t) t.entry)
-    (s : State) (keeps : KeepsOpenCalls m t (text_graph t code)) (old l : Loops) where
+    (s : State) (keeps : KeepsOpenCalls m t (text_graph t code)) (old l : Loops) (most : ℕ) where
   abbrev pub Copy : ℕ → Type 0
   Copy k = CopiesLoop m t (text_graph t code) old l k
 
@@ -60,6 +57,8 @@ module _ (m : Meaning) (own : IsMeaning m) (t : Text) (env : Setting) (ok : IsTe
     pub at : At t w d.returns
     pub opened : f.returns ≡ m.open_at w.pc ++ d.returns
     pub few : AreWithin old f.counts
+    pub deep : length f.returns ≤ most
+    pub shallow : (i : ℕ) (c : Carried) → i ≤ n → kept_at env s l i ≡ Some c → length c.returns ≤ most
     pub modes : (k : ℕ) (c : Copy k) → ModeOf k c w.pc at.calls (d.counts k) (f.counts c.number)
 
   module _ (w u : State) (d f next : Carried) (y : Stepped) (at : At t w d.returns) (here : y.pc ≡ w.pc) (there : u.pc ≡ y.next) (k : ℕ) (c : Copy k) (few : f.counts c.number ≤ old.bound c.number) where
@@ -110,15 +109,17 @@ module _ (m : Meaning) (own : IsMeaning m) (t : Text) (env : Setting) (ok : IsTe
       abbrev goes : Onward t env ok code is fine w u held.at.calls rs y.moved
       goes = onward t env ok code is fine w held.d.returns rs held.at y went returns
 
-      pub step_on : ((after : List ℕ) → Way (text_graph t code) w.pc u.pc held.at.calls after y.moved → next.returns ≡ m.open_at u.pc ++ rs) → AreWithin old next.counts →
+      pub step_on : ((after : List ℕ) → Way (text_graph t code) w.pc u.pc held.at.calls after y.moved → next.returns ≡ m.open_at u.pc ++ rs) → AreWithin old next.counts → length next.returns ≤ most →
           ((k : ℕ) (c : Copy k) (after : List ℕ) (way : Way (text_graph t code) w.pc u.pc held.at.calls after y.moved) → CountsBy k c f next way) → Held (suc n) u next
-      step_on opened few counts = record {
+      step_on opened few deep counts = record {
         d = then;
-        kept = kept_step env s l n ys w y (Some held.d) runs went held.kept ∙ (ap (keeps_counts l then.counts y) returns ∙ cond-false _ _ _ whole);
+        kept = kept;
         counted = counted;
         at = goes.at;
         opened = opened goes.at.calls goes.way;
         few = few;
+        deep = deep;
+        shallow = shallow;
         modes = modes;
       }
         where
@@ -141,3 +142,19 @@ module _ (m : Meaning) (own : IsMeaning m) (t : Text) (env : Setting) (ok : IsTe
 
           whole : is_broken l then.counts y ≡ false
           whole = not_broken l then.counts y within (λ k kl left. let none = late k kl in let r : l.least_trips k ≤ then.counts k = omega (arith, none) in r)
+
+          kept : kept_at env s l (suc n) ≡ Some then
+          kept = kept_step env s l n ys w y (Some held.d) runs went held.kept ∙ (ap (keeps_counts l then.counts y) returns ∙ cond-false _ _ _ whole)
+
+          last_or_before : (i : ℕ) → i ≤ suc n → (i ≡ suc n) ⊎ (i ≤ n)
+          last_or_before i le = grind (arith, le)
+
+          shallow : (i : ℕ) (c : Carried) → i ≤ suc n → kept_at env s l i ≡ Some c → length c.returns ≤ most
+          shallow i c le e = ⊎_elim
+              (λ (now : i ≡ suc n).
+              let found : Some then ≡ Some c = sym kept ∙ (sym (ap (kept_at env s l) now) ∙ e) in
+              let is : then ≡ c = cc in
+              let size : length rs ≡ length c.returns = ap (λ (q : Carried). length q.returns) is in
+              let whole : length next.returns ≡ length (m.open_at u.pc) + length rs = ap (λ (q : List ℕ). length q) (opened goes.at.calls goes.way) ∙ length-append (m.open_at u.pc) rs in
+              let r : length c.returns ≤ most = omega (arith, size, whole, deep) in r)
+              (λ (before : i ≤ n). held.shallow i c before e) (last_or_before i le)

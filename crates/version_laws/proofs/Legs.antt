@@ -47,7 +47,7 @@ use Rattle.loop_versions.proofs.Laws.{branch_code, branch_of, copied_code, copy_
 use Rattle.version_laws.proofs.Frame.{IsPieceAt, IsFrame}
 use Rattle.version_laws.proofs.States as states
 use Rattle.version_laws.proofs.States.{is_extra}
-use Rattle.version_laws.proofs.Pairs.{IsPair, is_local}
+use Rattle.version_laws.proofs.Pairs.{IsPair}
 use Rattle.version_laws.proofs.Pairs.IsPair.{as_it_was, in_copy, at_call, at_return}
 
 -- how the step of the versioned run ends where that of the original doesn't go on
