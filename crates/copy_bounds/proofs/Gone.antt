@@ -18,7 +18,7 @@ use Rattle.graph_runs.specs.RunTransitions.{returns_more, returns_so}
 use Rattle.graph_runs.specs.KeptSteps.{Carried, carried_first, counts_after, kept_more}
 use Rattle.graph_runs.specs.KeptRuns.{watched, kept_at}
 use Rattle.graph_runs.proofs.Laws.{EndsBy, IsDone, IsExit, IsTrap, going_length, kept_parts, step_done}
-use Rattle.version_laws.proofs.Pairs.{but_last, gone, gone_by}
+use Rattle.version_laws.proofs.Laws.{but_last, gone, gone_by}
 use Rattle.copy_bounds.proofs.Pairs.{Leads, kept_along, kept_last, snoc_length}
 
 -- a step that exits is local

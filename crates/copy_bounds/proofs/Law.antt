@@ -16,9 +16,7 @@ use Rattle.loop_versions.specs.declared.pieces.Site.{Site}
 use Rattle.loop_versions.specs.Made.{IsVersioned}
 use Rattle.loop_versions.specs.Follows.{in_block, StaysOutside, GoesBack, IsSoFar, FollowsVersioned}
 use Rattle.version_laws.specs.Exits.{ExitsAlike}
-use Rattle.version_laws.proofs.Laws.{exited_runs_stay_outside}
-use Rattle.version_laws.proofs.Law.{frame_of, runs_pair}
-use Rattle.version_laws.proofs.Pairs.{gone}
+use Rattle.version_laws.proofs.Laws.{exited_runs_stay_outside, frame_of, gone, versioned_runs_pair}
 use Rattle.copy_bounds.specs.Copies.{Meaning}
 use Rattle.copy_bounds.specs.Meanings.{meaning}
 use Rattle.copy_bounds.specs.Laws.{AreCovered, VersionedRunsKeepBounds, VersionedExitsAreKept}
@@ -82,7 +80,7 @@ module _ (image versioned : Image) (pieces : List Piece) (sites : List Site) (ba
         (k : ℕ) × FollowsVersioned image versioned pieces sites base (run_of image levels input n) (run_of versioned levels input k) × IsKeptUpTo versioned levels input l k
     unfolding run_of
     version_follows outside =
-        let p = runs_pair image versioned pieces sites base levels input n h small outside goes_back in
+        let p = versioned_runs_pair image versioned pieces sites base levels input n h small outside goes_back in
         (p.0, p.1, version_kept p.0 (paired_of image versioned pieces sites base h (gone (run one (start_of image levels) n)) (gone (run other (start_of versioned levels) p.0)) p.2))
 
 pub keep_bounds : VersionedRunsKeepBounds

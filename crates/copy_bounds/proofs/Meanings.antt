@@ -16,10 +16,8 @@ use Rattle.loop_versions.specs.Fitting.{origin, origin_by, calls_by, calls_round
 use Rattle.loop_versions.specs.Follows.{in_block}
 use Rattle.loop_versions.specs.Made.{IsVersioned}
 use Rattle.loop_versions.proofs.Laws.{fit_parts, len_some, placed, within}
-use Rattle.version_laws.proofs.Pairs.{is_local}
-use Rattle.version_laws.proofs.Pairs as versions
-use Rattle.version_laws.proofs.Pairs.IsPair.{as_it_was, in_copy, at_call, at_return}
-use Rattle.version_laws.proofs.Pairs.ArePaired.{none as none_there, passed as passed_there, both as both_there}
+use Rattle.version_laws.proofs.Laws.{is_local, as_it_was, in_copy, at_call, at_return, none_paired, passed_paired, both_paired}
+use Rattle.version_laws.proofs.Laws as versions
 use Rattle.copy_bounds.specs.Copies.{Meaning}
 use Rattle.copy_bounds.specs.Meanings.{piece_round, source_by, without_first, opened_by, text_at, is_extra, open_at, meaning}
 use Rattle.copy_bounds.proofs.Pairs.{IsMeaning, IsMadeAt, IsPair, ArePaired}
@@ -236,7 +234,7 @@ module _ (image versioned : Image) (pieces : List Piece) (sites : List Site) (ba
         apart moved_too (returned_at at to (round_of base pieces y.pc y.pc (Returned at to) found (omega arith) (omega arith)) moved)
 
   pub paired_of : (xs ys : List Stepped) → versions.ArePaired image versioned pieces sites base xs ys → ArePaired m xs ys
-  paired_of xs ys none_there = none
-  paired_of xs ys (passed_there {xs = zs} {ys = vs} y before extra) = passed y (paired_of zs vs before) extra
-  paired_of xs ys (both_there {xs = zs} {ys = vs} x y before real pair outside to) =
+  paired_of xs ys none_paired = none
+  paired_of xs ys (passed_paired {xs = zs} {ys = vs} y before extra) = passed y (paired_of zs vs before) extra
+  paired_of xs ys (both_paired {xs = zs} {ys = vs} x y before real pair outside to) =
       both x y (paired_of zs vs before) real (pair_of x y real pair) (text_next y.next x.next outside to)
