@@ -57,7 +57,7 @@ EndsAlike v (Trapped trap) (Trapped other) = other.kind ≡ trap.kind
 EndsAlike v e g = ⊥
 
 -- a plain instruction is no call and no return
-plain_local : (i : Instr) → is_plain (Some i) ≡ true → move_of i ≡ Local
+pub plain_local : (i : Instr) → is_plain (Some i) ≡ true → move_of i ≡ Local
 plain_local (instr.Lui rd imm) e = refl
 plain_local (instr.Auipc rd imm) e = let never : ⊥ = cc in absurd never
 plain_local (instr.Jal rd offset) e = let never : ⊥ = cc in absurd never
