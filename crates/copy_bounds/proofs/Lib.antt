@@ -4,5 +4,6 @@ pub mod Gone
 pub mod Steps
 pub mod Along
 pub mod Meanings
+pub mod Foreign
 pub mod Law
 pub mod Laws
