@@ -1,18 +1,22 @@
 -- Steps side by side, from the start on: where the original's are kept, those of the versioned image are.
-use Rattle.std.proofs.Common.{◌≡◌, ℕ, zero, suc, ◌+◌, ◌<◌, ◌≤◌, ◌^◌, true, false, cond, ◌⊎◌, inl, inr, ⊎_elim, List, [], ◌∷◌, ◌++◌, length, map, nat_eq, refl, sym, ◌∙◌, ap, subst, arith, Option, Some, None}
+use Rattle.std.proofs.Common.{◌≡◌, ◌≢◌, ℕ, zero, suc, ◌+◌, ◌%◌, ◌<◌, ◌≤◌, ◌^◌, Bool, true, false, cond, ◌⊎◌, inl, inr, ⊎_elim, List, [], ◌∷◌, ◌++◌, length, map, nat_eq, refl, sym, ◌∙◌, ap, subst, arith, Option, Some, None}
 use Rattle.scale_base.specs.declared.instruction.Instr.{Instr}
 use Rattle.scale_base.specs.declared.stepping.Move.{Move}
 use Rattle.scale_base.specs.declared.stepping.Move.TheVariants.{Local, Call, Return}
 use Rattle.scale_base.specs.declared.stepping.Stepped.{Stepped}
 use Rattle.scale_base.specs.declared.stepping.StepEnd.TheVariants.{Went}
 use Rattle.scale_base.specs.State.{Setting, State}
-use Rattle.scale_base.specs.Step.{step}
+use Rattle.scale_base.specs.Step.{step, move_of}
 use Rattle.scale_base.specs.Run.{Run, GoesOn, run}
 use Rattle.cost_theory.specs.Graph.{Loops, AreWithin, count_step}
 use Rattle.cost_theory.specs.Reached.{Code, IsCodeOf, HasNoBadWord, Reached}
 use Rattle.cost_theory.specs.Reached.Reached.{main}
 use Rattle.code_text.specs.Text.{Text, instr_at, kind_at}
 use Rattle.code_text.specs.TextGraph.{text_graph}
+use Rattle.code_text.proofs.Laws.{kind_facts}
+use Rattle.cost_theory.specs.declared.flow.Flow.TheVariants as flow
+use Rattle.std.proofs.lemmas.Bool.{both_ways, false_from_ne_true}
+use Rattle.copy_bounds.proofs.Calls.{no_call}
 use Rattle.graph_runs.specs.TextStates.{IsTextOf, IsOverText}
 use Rattle.graph_runs.specs.RunTransitions.{after_call, IsStack}
 use Rattle.graph_runs.specs.ReturnAddresses.{returns_by, returns_after}
@@ -30,18 +34,36 @@ use Rattle.copy_bounds.proofs.Gone.{kept_leads}
 use Rattle.copy_bounds.proofs.Steps.{Copy, CountsBy, Held, IsKept, ModeOf, step_on, from_round}
 
 module _ (m : Meaning) (own : IsMeaning m) (t : Text) (env : Setting) (ok : IsTextOf t env) (code : Code) (is : IsCodeOf (kind_at t) t.entry code) (fine : HasNoBadWord (kind_at t) t.entry)
-    (s : State) (keeps : KeepsOpenCalls m t (text_graph t code)) (old l : Loops) (most : ℕ) where
+    (foreign : (a : ℕ) (i : Instr) → a % 4 ≡ 0 → instr_at t a ≡ Some i → m.is_own a ≡ false → move_of i ≡ Local)
+    (s : State) (keeps : KeepsOpenCalls m (text_graph t code)) (old l : Loops) (most : ℕ) where
   abbrev CopyOf : ℕ → Type 0
-  CopyOf k = Copy m own t env ok code is fine s keeps old l most k
+  CopyOf k = Copy m t env ok code is fine s old l most k
 
   abbrev CountsFor : (k : ℕ) (c : CopyOf k) (f next : Carried) {pc to : ℕ} {calls after : List ℕ} {moved : Move} → Way (text_graph t code) pc to calls after moved → Type 0
-  CountsFor k c f next way = CountsBy m own t env ok code is fine s keeps old l most k c f next way
+  CountsFor k c f next way = CountsBy m t env ok code is fine s old l most k c f next way
 
   abbrev pub HeldAt : ℕ → State → Carried → Type 0
-  HeldAt n w f = Held m own t env ok code is fine s keeps old l most n w f
+  HeldAt n w f = Held m t env ok code is fine s old l most n w f
 
   abbrev pub KeptAlone : ℕ → Type 0
-  KeptAlone k = IsKept m own t env ok code is fine s keeps old l most k
+  KeptAlone k = IsKept m t env ok code is fine s old l most k
+
+  -- a word of a copy is at no step of the original alone
+  off_own : (a : ℕ) → m.is_extra a ≡ true → m.is_own a ≡ false
+  off_own a extra = false_from_ne_true (m.is_own a) (λ e. both_ways (m.is_extra a) (own.real a e) extra)
+
+  call_fine : (u f : ℕ) → kind_at t u ≡ flow.Call f → kind_at t u ≢ flow.Refused
+  call_fine u f e b = let bad : ⊥ = cc in bad
+
+  -- calls are made in the text
+  call_own : (u f : ℕ) → kind_at t u ≡ flow.Call f → m.is_own u ≡ true
+  call_own u f e = by (m.is_own u) refl
+    where
+      by : (b : Bool) → m.is_own u ≡ b → b ≡ true
+      by true is_own = refl
+      by false off =
+          let facts = kind_facts t u (call_fine u f e) in
+          absurd (no_call t u f facts.2.0 (foreign u facts.2.0 facts.0 facts.2.1 off) (sym facts.2.2 ∙ e))
 
   module _ (late : (k : ℕ) → k < l.loops → l.least_trips k ≡ 0) (each : (k : ℕ) → k < l.loops → KeptAlone k ⊎ CopyOf k) where
     module _ (n : ℕ) (ys : List Stepped) (w : State) (runs : run env s n ≡ record { steps = ys; state = w; standing = GoesOn }) (y : Stepped) (went : (step env w).end ≡ Went y) (f : Carried) (held : HeldAt n w f) where
@@ -68,10 +90,11 @@ module _ (m : Meaning) (own : IsMeaning m) (t : Text) (env : Setting) (ok : IsTe
           (λ (done : (i : Instr) × IsDone env w i (step env w).end (step env w).state).
           let ends : EndsBy done.0 w (Went y) (step env w).state = subst (λ e. EndsBy done.0 w e (step env w).state) went done.1.ends in
           let read : instr_at t w.pc ≡ Some done.0 = sym (fetched t env ok code is fine w d.returns held.at) ∙ done.1.instr in
-          ends.moved ∙ keeps.passing w.pc done.0 read (ap m.is_extra (sym here) ∙ extra)) (step_done env w)
+          let word = kind_facts t w.pc (fine held.at.function w.pc held.at.reached) in
+          ends.moved ∙ foreign w.pc done.0 word.0 read (off_own w.pc (ap m.is_extra (sym here) ∙ extra))) (step_done env w)
 
       pub extra_on : m.is_extra y.pc ≡ true → HeldAt (suc n) u f
-      extra_on extra = step_on m own t env ok code is fine s keeps old l most late each n ys w runs y went f f held d.returns (local_returns moved) opened held.few held.deep counts
+      extra_on extra = step_on m t env ok code is fine s old l most late each n ys w runs y went f f held d.returns (local_returns moved) opened held.few held.deep counts
         where
           moved : y.moved ≡ Local
           moved = extra_local extra
@@ -86,7 +109,7 @@ module _ (m : Meaning) (own : IsMeaning m) (t : Text) (env : Setting) (ok : IsTe
 
           opened : (after : List ℕ) → Way (text_graph t code) w.pc u.pc held.at.calls after y.moved → f.returns ≡ m.open_at u.pc ++ d.returns
           opened after (over_edge leads steps same_calls local) =
-              let stay : Some (m.open_at w.pc) ≡ Some (m.open_at u.pc) = sym (own.passed w.pc at_w) ∙ keeps.along w.pc u.pc leads in
+              let stay : Some (m.open_at w.pc) ≡ Some (m.open_at u.pc) = sym (own.passed w.pc at_w) ∙ keeps w.pc u.pc leads (off_own w.pc at_w) in
               let alike : m.open_at w.pc ≡ m.open_at u.pc = cc in
               held.opened ∙ ap (λ rs. rs ++ d.returns) alike
           opened after (into_call call more_calls called) = let bad : Local ≡ Call = sym moved ∙ called in let never : ⊥ = cc in absurd never
@@ -116,27 +139,30 @@ module _ (m : Meaning) (own : IsMeaning m) (t : Text) (env : Setting) (ok : IsTe
             ∙ ap (λ n. cond (nat_eq (m.text_at u.pc) (old.header c.number)) n (f.counts c.number)) (from_round old c.number (m.source_at a) (f.counts c.number + 1))
 
         -- in a copy
-        apart_on : y.moved ≡ Local → IsMadeAt m y.pc x → HeldAt (suc n) u next
-        apart_on moved made = step_on m own t env ok code is fine s keeps old l most late each n ys w runs y went f next held d.returns (local_returns moved) opened few deep counts
+        apart_on : y.moved ≡ Local → m.is_own y.pc ≡ false → IsMadeAt m y.pc x → HeldAt (suc n) u next
+        apart_on moved off made = step_on m t env ok code is fine s old l most late each n ys w runs y went f next held d.returns (local_returns moved) opened few deep counts
           where
+            off_w : m.is_own w.pc ≡ false
+            off_w = ap m.is_own (sym here) ∙ off
+
             made_w : IsMadeAt m w.pc x
             made_w = subst (λ a. IsMadeAt m a x) here made
 
             counts : (k : ℕ) (c : CopyOf k) (after : List ℕ) (way : Way (text_graph t code) w.pc u.pc held.at.calls after y.moved) → CountsFor k c f next way
             counts k c after (over_edge leads steps same_calls local) =
-                inr (real_w, real_counts k c w.pc (ap (λ rs. source_of x.moved x.pc rs) held.opened ∙ made_w.source d.returns (m.open_at u.pc) (keeps.along w.pc u.pc leads)))
+                inr (real_w, real_counts k c w.pc (ap (λ rs. source_of x.moved x.pc rs) held.opened ∙ made_w.source d.returns (m.open_at u.pc) (keeps w.pc u.pc leads off_w)))
             counts k c after (into_call call more_calls called) = let bad : Local ≡ Call = sym moved ∙ called in let never : ⊥ = cc in absurd never
             counts k c after (back_to v e to us before less_calls lt from returns call leads back) = let bad : Local ≡ Return = sym moved ∙ back in let never : ⊥ = cc in absurd never
 
             opened : (after : List ℕ) → Way (text_graph t code) w.pc u.pc held.at.calls after y.moved → next.returns ≡ m.open_at u.pc ++ d.returns
             opened after (over_edge leads steps same_calls local) =
-                made_w.returns d.returns (m.open_at u.pc) next.returns (keeps.along w.pc u.pc leads) (ap (λ rs. returns_after rs x) (sym held.opened) ∙ returns)
+                made_w.returns d.returns (m.open_at u.pc) next.returns (keeps w.pc u.pc leads off_w) (ap (λ rs. returns_after rs x) (sym held.opened) ∙ returns)
             opened after (into_call call more_calls called) = let bad : Local ≡ Call = sym moved ∙ called in let never : ⊥ = cc in absurd never
             opened after (back_to v e to us before less_calls lt from returns call leads back) = let bad : Local ≡ Return = sym moved ∙ back in let never : ⊥ = cc in absurd never
 
         -- in the text
-        same_on : y ≡ x → m.is_own y.pc ≡ true → HeldAt (suc n) u next
-        same_on e is_own = step_on m own t env ok code is fine s keeps old l most late each n ys w runs y went f next held next.returns same_returns opened few deep counts
+        same_on : y ≡ x → m.is_own y.pc ≡ true → m.open_at y.next ≡ [] → HeldAt (suc n) u next
+        same_on e is_own none_next = step_on m t env ok code is fine s old l most late each n ys w runs y went f next held next.returns same_returns opened few deep counts
           where
             own_w : m.is_own w.pc ≡ true
             own_w = ap m.is_own (sym here) ∙ is_own
@@ -155,28 +181,19 @@ module _ (m : Meaning) (own : IsMeaning m) (t : Text) (env : Setting) (ok : IsTe
                 inr (real_w, real_counts k c w.pc (source (m.source_at w.pc) (ap (λ q. source_of q y.pc f.returns) local ∙ (ap Some here ∙ sym (own.source w.pc own_w)))))
             counts k c after (into_call call more_calls called) = other_counts k c None (source None (ap (λ q. source_of q y.pc f.returns) called))
             counts k c after (back_to v e to us before less_calls lt from returns call leads back) =
-                let own_v : m.is_own v ≡ true = (keeps.called v to call).0 in
                 let stack : IsStack (kind_at t) t.entry held.at.function (v ∷ us) = subst (λ q. IsStack (kind_at t) t.entry held.at.function q) before held.at.stack in
+                let own_v : m.is_own v ≡ true = call_own v held.at.function stack.1 in
                 let small : v < 2 ^ 32 = site_small t env ok code is fine held.at.function v us stack in
                 let from_v : source_of y.moved y.pc f.returns ≡ Some v =
                 ap (λ q. source_of q y.pc f.returns) back ∙ (ap (λ q. source_of Return y.pc q) (alike ∙ (held.at.returns ∙ ap (map after_call) before)) ∙ ap Some (site_back v small)) in
                 inr (own.real v own_v, real_counts k c v (source (m.source_at v) (from_v ∙ sym (own.source v own_v))))
 
-            none_there : (after : List ℕ) → Way (text_graph t code) w.pc u.pc held.at.calls after y.moved → m.open_at u.pc ≡ []
-            none_there after (over_edge leads steps same_calls local) =
-                let stay : Some [] ≡ Some (m.open_at u.pc) = sym (own.opened w.pc own_w) ∙ keeps.along w.pc u.pc leads in
-                let r : [] ≡ m.open_at u.pc = cc in sym r
-            none_there after (into_call call more_calls called) = (keeps.called w.pc u.pc call).1
-            none_there after (back_to v e to us before less_calls lt from returns call leads back) =
-                let stay : Some [] ≡ Some (m.open_at u.pc) = sym (own.opened v (keeps.called v to call).0) ∙ keeps.along v u.pc leads in
-                let r : [] ≡ m.open_at u.pc = cc in sym r
-
             opened : (after : List ℕ) → Way (text_graph t code) w.pc u.pc held.at.calls after y.moved → next.returns ≡ m.open_at u.pc ++ next.returns
-            opened after way = ap (λ rs. rs ++ next.returns) (sym (none_there after way))
+            opened after way = ap (λ rs. rs ++ next.returns) (sym (ap m.open_at there ∙ none_next))
 
         pub both_on : IsPair m x y → HeldAt (suc n) u next
-        both_on (same e is_own) = same_on e is_own
-        both_on (apart moved made) = apart_on moved made
+        both_on (same e is_own none_next) = same_on e is_own none_next
+        both_on (apart moved off made) = apart_on moved off made
 
     -- ---- from the start on
 
@@ -197,7 +214,7 @@ module _ (m : Meaning) (own : IsMeaning m) (t : Text) (env : Setting) (ok : IsTe
         few = λ k kl. omega arith;
         deep = omega arith;
         shallow = λ i c le e. shallow_first i c le e;
-        modes = λ k c. subst (λ v. ModeOf m own t env ok code is fine s keeps old l most k c v [] 0 0) (sym at_entry)
+        modes = λ k c. subst (λ v. ModeOf m t env ok code is fine s old l most k c v [] 0 0) (sym at_entry)
             (mode_first m t (text_graph t code) (l.header k) (l.inside k) (old.header c.number) (old.inside c.number) c.certificate c.is (old.bound c.number));
       }
 

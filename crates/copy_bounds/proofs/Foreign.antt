@@ -1,27 +1,22 @@
 -- The words that stand in the versioned image but not in the original make no calls and no returns.
-use Rattle.std.proofs.Common.{◌≡◌, ◌≢◌, ℕ, ◌+◌, ◌*◌, ◌%◌, ◌<◌, ◌≤◌, Bool, true, false, not, cond, List, [], ◌∷◌, length, refl, sym, ap, ◌∙◌, subst, arith, Option, Some, None, pos, inl, inr}
-use Rattle.std.specs.Prelude.{◌==◌, ◌&&◌, ◌||◌, nat_le, nat_lt, is_some, if◌then◌else◌}
+use Rattle.std.proofs.Common.{◌≡◌, ◌≢◌, ℕ, ◌+◌, ◌*◌, ◌%◌, ◌<◌, ◌≤◌, Bool, true, false, not, List, [], ◌∷◌, length, refl, sym, ap, ◌∙◌, subst, arith, Option, Some, None, inl, inr}
+use Rattle.std.specs.Prelude.{◌&&◌, nat_le, nat_lt, is_some}
 use Rattle.std.proofs.lemmas.Bool.{cond-true, cond-false, and_parts, and_from, or_cases, both_ways, cases_lt, lt-ltb, ltb-true}
 use Rattle.scale_base.specs.declared.instruction.Instr.{Instr}
-use Rattle.scale_base.specs.declared.instruction.Instr.TheVariants as instr
-use Rattle.scale_base.specs.declared.stepping.Move.TheVariants.{Local, Call}
-use Rattle.std.specs.Ordering.{int_eq}
-use Rattle.scale_base.specs.Arith.{moved_by}
+use Rattle.scale_base.specs.declared.stepping.Move.TheVariants.{Local}
 use Rattle.scale_base.specs.Image.{Image, loaded_byte}
 use Rattle.scale_base.specs.Reading.{instr_of}
 use Rattle.scale_base.specs.State.{Setting, word_at}
 use Rattle.scale_base.specs.Step.{move_of}
 use Rattle.scale_base.specs.Run.{setting_of}
 use Rattle.scale_base.proofs.Laws.{word_back}
-use Rattle.cost_theory.specs.declared.flow.Flow.TheVariants as flow
-use Rattle.code_text.specs.Text.{Text, text_of, instr_at, instr_kind, ecall_kind, known}
-use Rattle.rv_encode.specs.Jumps.{distance}
+use Rattle.code_text.specs.Text.{text_of, instr_at}
 use Rattle.stub_writer.specs.Stubs.{jump}
 use Rattle.image_lower.specs.TreeRuns.{CodeStands}
 use Rattle.loop_versions.specs.declared.pieces.Piece.{Piece}
 use Rattle.loop_versions.specs.declared.pieces.Piece.TheVariants.{Copied, Branched, Jumped, Bridge, Guard, Entered, Returned}
 use Rattle.loop_versions.specs.declared.pieces.Site.{Site}
-use Rattle.loop_versions.specs.Pieces.{piece_len, behind, site_at, piece_code, extra_len, in_extra, is_site}
+use Rattle.loop_versions.specs.Pieces.{behind, site_at, piece_code, extra_len, in_extra, is_site}
 use Rattle.loop_versions.specs.Fitting.{is_right}
 use Rattle.loop_versions.specs.Made.{IsVersioned}
 use Rattle.loop_versions.proofs.Laws.{branch_code, branch_of, code_len, copied_code, copy_of, extra_few}
@@ -122,35 +117,3 @@ module _ (image versioned : Image) (pieces : List Piece) (sites : List Site) (ba
         | inl site ↦ at_site a i site even read
         | inr extra ↦ absurd (extra_round base pieces a extra e)
       ]
-
-jal_no : (zero one : Bool) (to f : ℕ) → (if one then Call else Local) ≡ Local → (if zero then flow.Jump to else if one then flow.Call to else flow.Refused) ≢ flow.Call f
-jal_no true one to f moved e = let never : ⊥ = cc in never
-jal_no false true to f moved e = let never : ⊥ = cc in never
-jal_no false false to f moved e = let never : ⊥ = cc in never
-
-jalr_no : (back : Bool) (f : ℕ) → (if back then flow.Return else flow.Refused) ≢ flow.Call f
-jalr_no true f e = let never : ⊥ = cc in never
-jalr_no false f e = let never : ⊥ = cc in never
-
-exit_no : (exits : Bool) (f : ℕ) → (if exits then flow.Exit else flow.Next) ≢ flow.Call f
-exit_no true f e = let never : ⊥ = cc in never
-exit_no false f e = let never : ⊥ = cc in never
-
-ecall_no : (o : Option ℕ) (f : ℕ) → ecall_kind o ≢ flow.Call f
-ecall_no None f e = let never : ⊥ = cc in never
-ecall_no (Some k) f e = exit_no ((k == 93) || (k == 94)) f e
-
--- an instruction that is no call
-pub no_call : (t : Text) (v f : ℕ) (i : Instr) → move_of i ≡ Local → instr_kind t v i ≢ flow.Call f
-no_call t v f (instr.Lui rd imm) moved e = let never : ⊥ = cc in never
-no_call t v f (instr.Auipc rd imm) moved e = let never : ⊥ = cc in never
-no_call t v f (instr.Jal rd offset) moved e = jal_no (rd == 0) (rd == 1) (moved_by v offset) f moved e
-no_call t v f (instr.Jalr rd rs1 offset) moved e = jalr_no ((rd == 0) && (rs1 == 1) && int_eq offset (pos 0)) f e
-no_call t v f (instr.Branch op rs1 rs2 offset) moved e = let never : ⊥ = cc in never
-no_call t v f (instr.Load op rd rs1 offset) moved e = let never : ⊥ = cc in never
-no_call t v f (instr.Store op rs1 rs2 offset) moved e = let never : ⊥ = cc in never
-no_call t v f (instr.Imm op rd rs1 imm) moved e = let never : ⊥ = cc in never
-no_call t v f (instr.Reg op rd rs1 rs2) moved e = let never : ⊥ = cc in never
-no_call t v f (instr.Fence rd rs1 imm) moved e = let never : ⊥ = cc in never
-no_call t v f instr.Ecall moved e = ecall_no (known t v) f e
-no_call t v f instr.Ebreak moved e = let never : ⊥ = cc in never

@@ -23,6 +23,7 @@ use Rattle.copy_bounds.specs.Laws.{AreCovered, VersionedRunsKeepBounds, Versione
 use Rattle.copy_bounds.proofs.Pairs.{ArePaired}
 use Rattle.copy_bounds.proofs.Gone.{few_gone, gone_leads, gone_up_to, kept_gone, kept_is, returns_along, returns_gone}
 use Rattle.copy_bounds.proofs.Meanings.{means, none_open_at, paired_of}
+use Rattle.copy_bounds.proofs.Foreign.{foreign_local}
 use Rattle.copy_bounds.proofs.Along.{held_along}
 
 module _ (image versioned : Image) (pieces : List Piece) (sites : List Site) (base levels : ℕ) (input : List ℕ) (code : Code) (old l : Loops)
@@ -64,7 +65,7 @@ module _ (image versioned : Image) (pieces : List Piece) (sites : List Site) (ba
     version_kept k paired =
         let raw = gone_leads one (start_of image levels) n in
         let too = gone_leads other (start_of versioned levels) k in
-        let held = held_along m (means image versioned pieces sites base h) (text_of versioned) other starts.text code covered.reached.lists covered.reached.words
+        let held = held_along m (means image versioned pieces sites base h) (text_of versioned) other starts.text code covered.reached.lists covered.reached.words (foreign_local image versioned pieces sites base levels input h)
         (start_of versioned levels) covered.calls old l most_returns covered.late covered.each starts.state starts.entry entry_open
         one (start_of image levels) n (λ i c le e. kept.shallow i c le e)
         (gone (run one (start_of image levels) n)) (gone (run other (start_of versioned levels) k)) paired

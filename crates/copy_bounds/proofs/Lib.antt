@@ -1,6 +1,7 @@
 pub mod Modes
 pub mod Pairs
 pub mod Gone
+pub mod Calls
 pub mod Steps
 pub mod Along
 pub mod Meanings

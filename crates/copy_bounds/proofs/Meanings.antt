@@ -143,7 +143,6 @@ module _ (image versioned : Image) (pieces : List Piece) (sites : List Site) (ba
     passed = λ a e. cond-true (is_extra pieces sites base a) _ _ e;
     real = λ a e. (own_parts a e).1;
     none_open = λ a e. open_of_none a (own_parts a e).0;
-    opened = λ a e. let p = own_parts a e in opened_real a None p.0 p.1 ∙ ap (λ (rs : List ℕ). Some rs) (open_of_none a p.0);
     source = λ a e. let p = own_parts a e in source_real a None p.0 ∙ ap (λ (n : ℕ). Some n) (text_of_none a p.0);
   }
 
@@ -220,21 +219,28 @@ module _ (image versioned : Image) (pieces : List Piece) (sites : List Site) (ba
           back_of opens rs opened after (sym (opened_real y.pc (Some (Returned at to)) e real) ∙ is) (sym (ap (λ q. returns_by q (opens ++ rs) x) moved) ∙ so);
     }
 
-    pub pair_of : versions.IsPair image versioned pieces sites base x y → IsPair m x y
-    pair_of (as_it_was e outside site) =
+    own_off : (p : Piece) → piece_round base pieces y.pc ≡ Some p → m.is_own y.pc ≡ false
+    own_off p e = ap (λ (o : Option Piece). not (is_some o) && not (is_extra pieces sites base y.pc)) e
+
+    pub pair_of : in_block image versioned pieces sites base x.next ≡ false → versions.IsPair image versioned pieces sites base x y → IsPair m x y
+    pair_of next_outside (as_it_was e outside site) =
         let here : y.pc ≡ x.pc = ap (λ (z : Stepped). z.pc) e in
         let text : piece_round base pieces y.pc ≡ None = ap (piece_round base pieces) here ∙ round_off x.pc outside in
         same e (and_from (not (is_some (piece_round base pieces y.pc))) (not (is_extra pieces sites base y.pc)) (ap (λ o. not (is_some o)) text) (ap not real))
-    pair_of (in_copy p found local at moved moved_too) =
+        (ap m.open_at (ap (λ (z : Stepped). z.next) e) ∙ none_open_at x.next next_outside)
+    pair_of next_outside (in_copy p found local at moved moved_too) =
         let some = len_some p in
-        apart moved_too (copied p (round_of base pieces y.pc y.pc p found (omega arith) (omega (arith, some))) local at moved)
-    pair_of (at_call v at to end found here at_is moved moved_too) =
-        apart moved_too (entered at to end (round_of base pieces v y.pc (Entered at to end) found (omega (arith, here)) (omega (arith, here))) at_is moved)
-    pair_of (at_return at to found at_is moved moved_too) =
-        apart moved_too (returned_at at to (round_of base pieces y.pc y.pc (Returned at to) found (omega arith) (omega arith)) moved)
+        let round = round_of base pieces y.pc y.pc p found (omega arith) (omega (arith, some)) in
+        apart moved_too (own_off p round) (copied p round local at moved)
+    pair_of next_outside (at_call v at to end found here at_is moved moved_too) =
+        let round = round_of base pieces v y.pc (Entered at to end) found (omega (arith, here)) (omega (arith, here)) in
+        apart moved_too (own_off (Entered at to end) round) (entered at to end round at_is moved)
+    pair_of next_outside (at_return at to found at_is moved moved_too) =
+        let round = round_of base pieces y.pc y.pc (Returned at to) found (omega arith) (omega arith) in
+        apart moved_too (own_off (Returned at to) round) (returned_at at to round moved)
 
   pub paired_of : (xs ys : List Stepped) → versions.ArePaired image versioned pieces sites base xs ys → ArePaired m xs ys
   paired_of xs ys none_paired = none
   paired_of xs ys (passed_paired {xs = zs} {ys = vs} y before extra) = passed y (paired_of zs vs before) extra
   paired_of xs ys (both_paired {xs = zs} {ys = vs} x y before real pair outside to) =
-      both x y (paired_of zs vs before) real (pair_of x y real pair) (text_next y.next x.next outside to)
+      both x y (paired_of zs vs before) real (pair_of x y real outside pair) (text_next y.next x.next outside to)

@@ -20,7 +20,6 @@ pub record IsMeaning (m : Meaning) : Type 0 where
   pub passed : (a : ℕ) → m.is_extra a ≡ true → m.opened_at a ≡ Some (m.open_at a)
   pub real : (a : ℕ) → m.is_own a ≡ true → m.is_extra a ≡ false
   pub none_open : (a : ℕ) → m.is_own a ≡ true → m.open_at a ≡ []
-  pub opened : (a : ℕ) → m.is_own a ≡ true → m.opened_at a ≡ Some []
   pub source : (a : ℕ) → m.is_own a ≡ true → m.source_at a ≡ Some a
 
 -- a step of the original that is made at an address of a copy
@@ -28,10 +27,10 @@ pub record IsMadeAt (m : Meaning) (a : ℕ) (x : Stepped) : Type 0 where
   pub source : (rs opened : List ℕ) → m.opened_at a ≡ Some opened → source_of x.moved x.pc (m.open_at a ++ rs) ≡ m.source_at a
   pub returns : (rs opened after : List ℕ) → m.opened_at a ≡ Some opened → returns_after (m.open_at a ++ rs) x ≡ Some after → after ≡ opened ++ rs
 
--- the same step of both runs, or one in a copy
+-- the same step of both runs, which goes on in the text, or one in a copy
 pub data IsPair (m : Meaning) (x y : Stepped) : Type 0 where
-  same : y ≡ x → m.is_own y.pc ≡ true → IsPair m x y
-  apart : y.moved ≡ Local → IsMadeAt m y.pc x → IsPair m x y
+  same : y ≡ x → m.is_own y.pc ≡ true → m.open_at y.next ≡ [] → IsPair m x y
+  apart : y.moved ≡ Local → m.is_own y.pc ≡ false → IsMadeAt m y.pc x → IsPair m x y
 
 -- steps of the original, and those of the versioned image: some more, and one for each of the original
 pub data ArePaired (m : Meaning) : (xs ys : List Stepped) → Type 0 where

@@ -20,16 +20,16 @@ use Rattle.graph_runs.proofs.Laws.{went_at}
 use Rattle.std.proofs.lemmas.Bool.{cond-false}
 use Rattle.bound_laws.specs.Turning.{unasked}
 use Rattle.bound_laws.proofs.Laws.{At, Onward, Way, onward, over_edge, into_call, back_to, site_small, site_back, not_broken}
-use Rattle.copy_bounds.specs.Copies.{Meaning, KeepsOpenCalls, CopiesLoop, counts_from}
+use Rattle.copy_bounds.specs.Copies.{Meaning, CopiesLoop, counts_from}
 use Rattle.copy_bounds.proofs.Modes.{Mode, Counts, turned, along_edge, along_call, along_return, other_called}
-use Rattle.copy_bounds.proofs.Pairs.{IsMeaning, kept_step}
+use Rattle.copy_bounds.proofs.Pairs.{kept_step}
 
 pub from_round : (l : Loops) (k : ℕ) (o : Option ℕ) (n : ℕ) → cond (is_round l k o) n 0 ≡ cond (counts_from (l.inside k) o) n 0
 from_round l k None n = refl
 from_round l k (Some v) n = refl
 
-module _ (m : Meaning) (own : IsMeaning m) (t : Text) (env : Setting) (ok : IsTextOf t env) (code : Code) (is : IsCodeOf (kind_at t) t.entry code) (fine : HasNoBadWord (kind_at t) t.entry)
-    (s : State) (keeps : KeepsOpenCalls m t (text_graph t code)) (old l : Loops) (most : ℕ) where
+module _ (m : Meaning) (t : Text) (env : Setting) (ok : IsTextOf t env) (code : Code) (is : IsCodeOf (kind_at t) t.entry code) (fine : HasNoBadWord (kind_at t) t.entry)
+    (s : State) (old l : Loops) (most : ℕ) where
   abbrev pub Copy : ℕ → Type 0
   Copy k = CopiesLoop m t (text_graph t code) old l k
 

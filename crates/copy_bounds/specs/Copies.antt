@@ -1,10 +1,7 @@
 -- Scaffold: loops of a versioned image that copy loops of the original, as the code says it edge by edge.
-use Rattle.std.specs.Prelude.{◌≡◌, ◌≢◌, ℕ, ◌<◌, ◌≤◌, ◌⊎◌, Bool, true, false, List, [], Option, Some, None}
-use Rattle.scale_base.specs.declared.instruction.Instr.{Instr}
-use Rattle.scale_base.specs.declared.stepping.Move.TheVariants.{Local}
-use Rattle.scale_base.specs.Step.{move_of}
+use Rattle.std.specs.Prelude.{◌≡◌, ◌≢◌, ℕ, ◌<◌, ◌≤◌, ◌⊎◌, Bool, true, false, List, Option, Some, None}
 use Rattle.cost_theory.specs.Graph.{Graph, Loops}
-use Rattle.code_text.specs.Text.{Text, instr_at}
+use Rattle.code_text.specs.Text.{Text}
 use Rattle.bound_laws.specs.Turning.{Leads, Calls}
 
 -- What the addresses of a versioned image stand for.
@@ -21,14 +18,9 @@ pub record Meaning : Type 0 where
   -- where a step of the original comes from that is made there, for the counts of loops
   pub source_at : ℕ → Option ℕ
 
--- The code keeps to the inlined calls that are open: it leaves a copy of what is called by its returns alone.
-pub record KeepsOpenCalls (m : Meaning) (t : Text) (g : Graph) : Type 0 where
-  pub along : (a b : ℕ) → Leads g a b → m.opened_at a ≡ Some (m.open_at b)
-  -- what stands for no step of the original leads to the same address of the text
-  pub passed : (a b : ℕ) → Leads g a b → m.is_extra a ≡ true → m.text_at b ≡ m.text_at a
-  pub passing : (a : ℕ) (i : Instr) → instr_at t a ≡ Some i → m.is_extra a ≡ true → move_of i ≡ Local
-  -- calls are made in the text, and go there
-  pub called : (a b : ℕ) → Calls g a b → (m.is_own a ≡ true) × (m.open_at b ≡ [])
+-- The code of copies keeps to the inlined calls that are open: it leaves what is called by its returns alone.
+abbrev pub KeepsOpenCalls : Meaning → Graph → Type 0
+KeepsOpenCalls m g = (a b : ℕ) → Leads g a b → m.is_own a ≡ false → m.opened_at a ≡ Some (m.open_at b)
 
 -- The code of a copy, with its header; the code that runs while a call from it is open; and where the original has counted a turn that the
 -- copy hasn't counted yet.

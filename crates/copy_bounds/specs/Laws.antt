@@ -26,7 +26,7 @@ IsBoundKept image levels input l k = (n : ℕ) (d : Carried) → kept_of image l
 pub record AreCovered (versioned : Image) (pieces : List Piece) (sites : List Site) (base levels : ℕ) (input : List ℕ) (code : Code)
     (old l : Loops) : Type 0 where
   pub reached : IsReachedCode (text_of versioned) code
-  pub calls : KeepsOpenCalls (meaning pieces sites base) (text_of versioned) (text_graph (text_of versioned) code)
+  pub calls : KeepsOpenCalls (meaning pieces sites base) (text_graph (text_of versioned) code)
   pub late : (k : ℕ) → k < l.loops → l.least_trips k ≡ 0
   pub each : (k : ℕ) → k < l.loops → IsBoundKept versioned levels input l k ⊎
       CopiesLoop (meaning pieces sites base) (text_of versioned) (text_graph (text_of versioned) code) old l k
