@@ -34,8 +34,8 @@ abbrev pub counts_from : (ℕ → Bool) → Option ℕ → Bool
 counts_from extent None = false
 counts_from extent (Some u) = extent u
 
--- What the code has to say of a loop of the versioned image with a header and an extent that copies a loop of the original with others. Each
--- clause is about one edge of the graph.
+-- What the code has to say of a loop of the versioned image with a header and an extent that copies a loop of the original with others.
+-- Each clause is about one edge of the graph.
 pub record IsCopy (m : Meaning) (t : Text) (g : Graph) (header : ℕ) (extent : ℕ → Bool) (copied : ℕ) (round : ℕ → Bool)
     (c : CopyCertificate) : Type 0 where
   -- the header is in the body, begins it, and stands for that of the original

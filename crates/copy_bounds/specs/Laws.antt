@@ -21,8 +21,8 @@ use Rattle.copy_bounds.specs.Meanings.{meaning}
 abbrev pub IsBoundKept : Image → (levels : ℕ) (input : List ℕ) → Loops → ℕ → Type 0
 IsBoundKept image levels input l k = (n : ℕ) (d : Carried) → kept_of image levels input (unasked l) n ≡ Some d → d.counts k ≤ l.bound k
 
--- What is asked of the loops of a versioned image: none has to turn before it is left, and the bound of each is kept by its runs, or is no less
--- than that of a loop that it copies.
+-- What is asked of the loops of a versioned image: none has to turn before it is left, and the bound of each is kept by its runs, or is no
+-- less than that of a loop that it copies.
 pub record AreCovered (versioned : Image) (pieces : List Piece) (sites : List Site) (base levels : ℕ) (input : List ℕ) (code : Code)
     (old l : Loops) : Type 0 where
   pub reached : IsReachedCode (text_of versioned) code
@@ -34,8 +34,9 @@ pub record AreCovered (versioned : Image) (pieces : List Piece) (sites : List Si
 -- Where the run of the original is kept, that of the versioned image follows it, and is kept.
 abbrev pub VersionedRunsKeepBounds : Type 0
 VersionedRunsKeepBounds =
-    (image versioned : Image) (pieces : List Piece) (sites : List Site) (base levels : ℕ) (input : List ℕ) (code : Code) (old l : Loops) (n : ℕ) →
-    IsVersioned image versioned pieces sites base → All (λ b. b < 2 ^ 8) input → StaysOutside image versioned pieces sites base levels input n →
+    (image versioned : Image) (pieces : List Piece) (sites : List Site) (base levels : ℕ) (input : List ℕ) (code : Code) (old l : Loops)
+    (n : ℕ) → IsVersioned image versioned pieces sites base → All (λ b. b < 2 ^ 8) input →
+    StaysOutside image versioned pieces sites base levels input n →
     AreCovered versioned pieces sites base levels input code old l → IsKeptUpTo image levels input old n →
     (m : ℕ) × FollowsVersioned image versioned pieces sites base (run_of image levels input n) (run_of versioned levels input m) ×
     IsKeptUpTo versioned levels input l m

@@ -14,8 +14,8 @@ abbrev pub piece_round : (place : ℕ) → List Piece → ℕ → Option Piece
 piece_round place [] v = None
 piece_round place (p ∷ ps) v = if nat_le place v && nat_lt v (behind place p) then Some p else piece_round (behind place p) ps v
 
--- Where a step of the original comes from that is made at such a piece, of the instruction at an address: a return comes from its call, and a
--- call from nowhere.
+-- Where a step of the original comes from that is made at such a piece, of the instruction at an address: a return comes from its call, and
+-- a call from nowhere.
 abbrev pub source_by : Option Piece → (at : ℕ) → (opened : List ℕ) → Option ℕ
 source_by None at opened = Some at
 source_by (Some (Copied a)) at opened = Some at
