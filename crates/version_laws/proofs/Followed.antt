@@ -32,6 +32,8 @@ use Rattle.version_laws.proofs.Frame.{IsFrame}
 use Rattle.version_laws.proofs.States as states
 use Rattle.version_laws.proofs.Legs as legs
 use Rattle.version_laws.proofs.Legs.{EndsAlike}
+use Rattle.version_laws.proofs.Pairs.{ArePaired, all_passed, but_last, gone, gone_by}
+use Rattle.version_laws.proofs.Pairs.ArePaired.{none, both}
 
 -- ---- the steps of a longer run
 
@@ -127,6 +129,9 @@ module _ (image versioned : Image) (pieces : List Piece) (sites : List Site) (ba
   abbrev Follows : Run → Run → Type 0
   Follows raw own = FollowsVersioned image versioned pieces sites base raw own
 
+  abbrev Paired : (xs ys : List Stepped) → Type 0
+  Paired xs ys = ArePaired image versioned pieces sites base xs ys
+
   -- the versioned run up to a step of the original one that goes on
   record IsGoing (r : Run) : Type 0 where
     v : ℕ
@@ -138,12 +143,14 @@ module _ (image versioned : Image) (pieces : List Piece) (sites : List Site) (ba
     outside : in_code r.state.pc ≡ false
     opened : AreOpen v r.steps
     classes : left_of is_extra steps ≡ classes_of r.steps
+    paired : Paired r.steps steps
 
   -- and where that has ended
   record IsOver (r : Run) : Type 0 where
     stays : one_more one r ≡ r
     after : ℕ
     followed : Follows r (run other (start_of versioned levels) after)
+    paired : Paired (gone r) (gone (run other (start_of versioned levels) after))
 
   -- ---- the start
 
@@ -182,6 +189,7 @@ module _ (image versioned : Image) (pieces : List Piece) (sites : List Site) (ba
     outside = entry_outside;
     opened = λ has. ([], refl, ap (λ (cs : List ℕ). begins cs []) (off_calls pieces base image.entry (f.no_piece image.entry entry_outside).0));
     classes = refl;
+    paired = none;
   }
 
   -- ---- one step more
@@ -218,6 +226,10 @@ module _ (image versioned : Image) (pieces : List Piece) (sites : List Site) (ba
       let before : StepsLead other (up g.v r.state) (l.steps ++ p.front) p.t = leads_on other (up g.v r.state) (up l.to r.state) p.t l.steps p.front l.leads p.leads in
       let there : StepsLead other (up g.v r.state) ((l.steps ++ p.front) ++ p.y ∷ []) (up p.next p.u) = leads_on other (up g.v r.state) p.t (up p.next p.u) (l.steps ++ p.front) (p.y ∷ []) before on in
       let after = kept r.steps p.x l.to (open_on r.steps g.v l.to g.opened l.open_to) back in
+      let next_too : p.next ≡ p.y.next = sym (ap (λ (o : Outcome). o.state.pc) p.step_too) ∙ (went_at other p.t p.y (ap (λ (o : Outcome). o.end) p.step_too)).1 in
+      let extra = All-append (λ x. is_extra x ≡ true) l.steps p.front l.extra p.extra in
+      let passed = all_passed image versioned pieces sites base r.steps g.steps (l.steps ++ p.front) g.paired extra in
+      let stands : origin pieces base p.y.next ≡ p.x.next = ap (origin pieces base) (sym next_too) ∙ (p.stands outside after ∙ next) in
       let to : IsGoing (record { steps = r.steps ++ p.x ∷ []; state = p.u; standing = GoesOn }) = record {
         v = p.next;
         stands = p.stands outside after;
@@ -227,7 +239,8 @@ module _ (image versioned : Image) (pieces : List Piece) (sites : List Site) (ba
         raw = states.raw_next image versioned pieces sites base levels input f small r.state p.u p.x g.raw p.step_is p.fetched;
         outside = ap in_code next ∙ outside;
         opened = λ has. let k = after has in (k.1, (back has).1, p.opens outside k.0 k.1 k.2 k.3);
-        classes = left_more is_extra g.steps (l.steps ++ p.front) r.steps p.x p.y g.classes (All-append (λ x. is_extra x ≡ true) l.steps p.front l.extra p.extra) p.real p.class;
+        classes = left_more is_extra g.steps (l.steps ++ p.front) r.steps p.x p.y g.classes extra p.real p.class;
+        paired = subst (Paired (r.steps ++ p.x ∷ [])) (append_assoc g.steps (l.steps ++ p.front) (p.y ∷ [])) (both p.x p.y passed p.real p.pair outside stands);
       } in
       subst IsGoing (sym (ap (λ (o : Outcome). ended r.steps o.end o.state) p.step_is)) to
 
@@ -245,6 +258,9 @@ module _ (image versioned : Image) (pieces : List Piece) (sites : List Site) (ba
           standing = (ap HasExited alike.0, output);
           classes = ap (λ (zs : List Stepped). left_of is_extra zs) (append_assoc g.steps l.steps (y ∷ [])) ∙ left_more is_extra g.steps l.steps r.steps x y g.classes l.extra real alike.1;
         });
+        paired = subst (λ (q : Run). Paired (gone raw) (gone q)) (sym ran)
+            (subst (λ (zs : List Stepped). Paired (gone raw) zs) (sym (but_last (g.steps ++ l.steps) y))
+            (subst (λ (zs : List Stepped). Paired zs (g.steps ++ l.steps)) (sym (but_last r.steps x)) (all_passed image versioned pieces sites base r.steps g.steps l.steps g.paired l.extra)));
       }
   came_to_end r g l (Trapped trap) u (Trapped other_trap) t is_too output alike real_at =
       let led : StepsLead other (start_of versioned levels) (g.steps ++ l.steps) (up l.to r.state) = leads_on other (start_of versioned levels) (up g.v r.state) (up l.to r.state) g.steps l.steps g.leads l.leads in
@@ -258,6 +274,7 @@ module _ (image versioned : Image) (pieces : List Piece) (sites : List Site) (ba
           standing = λ off. (alike, output);
           classes = left_extra is_extra g.steps l.steps r.steps g.classes l.extra;
         });
+        paired = subst (λ (q : Run). Paired (gone raw) (gone q)) (sym ran) (all_passed image versioned pieces sites base r.steps g.steps l.steps g.paired l.extra);
       }
   came_to_end r g l e u h t is_too output alike real_at = absurd alike
 
@@ -274,6 +291,7 @@ module _ (image versioned : Image) (pieces : List Piece) (sites : List Site) (ba
           standing = λ off. absurd (both_ways (list_any (is_returned r.state.pc) pieces) off e.at_return);
           classes = g.classes;
         });
+        paired = subst (λ (q : Run). Paired (gone raw) (gone q)) (sym g.leads) g.paired;
       } in
       subst IsOver (sym (ap (λ (o : Outcome). ended r.steps o.end o.state) e.ends)) over
 
@@ -342,10 +360,15 @@ module _ (image versioned : Image) (pieces : List Piece) (sites : List Site) (ba
         classes = g.classes;
       })
 
-  -- the run of each image with such a frame is followed
-  pub frame_follows : (n : ℕ) → StaysOutside image versioned pieces sites base levels input n → GoesBack image versioned pieces sites base levels input n → (m : ℕ) × FollowsVersioned image versioned pieces sites base (run_of image levels input n) (run_of versioned levels input m)
+  going_is_paired : (r : Run) (g : IsGoing r) → Paired (gone r) (gone (run other (start_of versioned levels) (length g.steps)))
+  going_is_paired r g =
+      subst (λ (q : Run). Paired (gone r) (gone q)) (sym g.leads) (subst (λ (q : Standing). Paired (gone_by q r.steps) g.steps) (sym g.goes_on) g.paired)
+
+  -- the run of each image with such a frame is followed, and the steps that go on are paired
+  pub frame_pairs : (n : ℕ) → StaysOutside image versioned pieces sites base levels input n → GoesBack image versioned pieces sites base levels input n →
+      (m : ℕ) × FollowsVersioned image versioned pieces sites base (run_of image levels input n) (run_of versioned levels input m) × Paired (gone (run_of image levels input n)) (gone (run_of versioned levels input m))
   unfolding run_of
-  frame_follows n keeps back = elim (follows n keeps back) [
-    | inl g ↦ (length g.steps, going_is_followed (run_of image levels input n) g)
-    | inr over ↦ (over.after, over.followed)
+  frame_pairs n keeps back = elim (follows n keeps back) [
+    | inl g ↦ (length g.steps, going_is_followed (run_of image levels input n) g, going_is_paired (run_of image levels input n) g)
+    | inr over ↦ (over.after, over.followed, over.paired)
   ]

@@ -15,7 +15,7 @@ use Rattle.scale_base.specs.Elf.{e_shnum, has_sections}
 use Rattle.scale_base.specs.Image.{Image, image_of, contents, loaded_byte, is_word_address, is_in, text_ranges, image_rules}
 use Rattle.scale_base.specs.Rules.{AllHold}
 use Rattle.scale_base.specs.Layout.{layout_of, in_text, is_keyed, can_fetch}
-use Rattle.scale_base.specs.Run.{setting_of, starting_level}
+use Rattle.scale_base.specs.Run.{setting_of, starting_level, run_of}
 use Rattle.scale_base.specs.State.{Setting, word_at}
 use Rattle.scale_base.specs.Word.{word_of, FieldsInRange}
 use Rattle.scale_base.proofs.Laws.{rules_kept, contents-are, has_table, rules_of, word_small}
@@ -42,10 +42,11 @@ use Rattle.loop_versions.specs.Pieces.{behind, piece_at, site_at, read, piece_co
 use Rattle.loop_versions.specs.Fitting.{origin, stands_for, is_right, are_right, are_free, are_there, is_site_right, are_fit, ways, begins, calls_at}
 use Rattle.loop_versions.specs.Fitting as fitting
 use Rattle.loop_versions.specs.Made.{site_patches, pieces_bytes, IsVersioned}
-use Rattle.loop_versions.specs.Follows.{in_block, VersionedRunsFollow}
+use Rattle.loop_versions.specs.Follows.{in_block, StaysOutside, GoesBack, FollowsVersioned, VersionedRunsFollow}
 use Rattle.loop_versions.proofs.Laws.{AreFit, code_few, code_fields, code_some, each_patch, extra_within, fit_parts, fits_fields, HasWord, IsPlaced, IsRightSite, len_some, no_site, placed, read_fields, right_site, site_of, site_passes, site_words, within}
 use Rattle.version_laws.proofs.Frame.{IsPieceAt, IsSiteAt, IsFrame}
-use Rattle.version_laws.proofs.Followed.{frame_follows}
+use Rattle.version_laws.proofs.Followed.{frame_pairs}
+use Rattle.version_laws.proofs.Pairs.{ArePaired, gone}
 
 -- ---- code that stands where its bytes lie
 
@@ -409,6 +410,20 @@ frame_of image versioned pieces sites base levels input h =
     subst P (contents-are image.file image h.read)
     (subst Q (contents-are versioned.file versioned h.read_too) (λ g. frame image.file versioned.file pieces sites base g levels input)) h
 
+-- with the steps of both runs side by side
+abbrev pub VersionedRunsPair : Type 0
+VersionedRunsPair =
+    (image versioned : Image) (pieces : List Piece) (sites : List Site) (base levels : ℕ) (input : List ℕ) (n : ℕ) →
+    IsVersioned image versioned pieces sites base →
+    All (λ b. b < 2 ^ 8) input → StaysOutside image versioned pieces sites base levels input n →
+    GoesBack image versioned pieces sites base levels input n →
+    (m : ℕ) × FollowsVersioned image versioned pieces sites base (run_of image levels input n) (run_of versioned levels input m) ×
+    ArePaired image versioned pieces sites base (gone (run_of image levels input n)) (gone (run_of versioned levels input m))
+
+pub runs_pair : VersionedRunsPair
+runs_pair = λ image versioned pieces sites base levels input n h small keeps back.
+    frame_pairs image versioned pieces sites base levels input (frame_of image versioned pieces sites base levels input h) small n keeps back
+
 pub runs_follow : VersionedRunsFollow
 runs_follow = λ image versioned pieces sites base levels input n h small keeps back.
-    frame_follows image versioned pieces sites base levels input (frame_of image versioned pieces sites base levels input h) small n keeps back
+    let p = runs_pair image versioned pieces sites base levels input n h small keeps back in (p.0, p.1)

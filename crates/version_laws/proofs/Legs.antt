@@ -47,6 +47,8 @@ use Rattle.loop_versions.proofs.Laws.{branch_code, branch_of, copied_code, copy_
 use Rattle.version_laws.proofs.Frame.{IsPieceAt, IsFrame}
 use Rattle.version_laws.proofs.States as states
 use Rattle.version_laws.proofs.States.{is_extra}
+use Rattle.version_laws.proofs.Pairs.{IsPair}
+use Rattle.version_laws.proofs.Pairs.IsPair.{as_it_was, in_copy, at_call, at_return}
 
 -- how the step of the versioned run ends where that of the original doesn't go on
 abbrev pub EndsAlike : ℕ → StepEnd → StepEnd → Type 0
@@ -55,7 +57,7 @@ EndsAlike v (Trapped trap) (Trapped other) = other.kind ≡ trap.kind
 EndsAlike v e g = ⊥
 
 -- a plain instruction is no call and no return
-plain_local : (i : Instr) → is_plain (Some i) ≡ true → move_of i ≡ Local
+pub plain_local : (i : Instr) → is_plain (Some i) ≡ true → move_of i ≡ Local
 plain_local (instr.Lui rd imm) e = refl
 plain_local (instr.Auipc rd imm) e = let never : ⊥ = cc in absurd never
 plain_local (instr.Jal rd offset) e = let never : ⊥ = cc in absurd never
@@ -124,6 +126,7 @@ module _ (image versioned : Image) (pieces : List Piece) (sites : List Site) (ba
     pub next : ℕ
     pub step_too : step other t ≡ goes y (up next u)
     pub class : y.class ≡ x.class
+    pub pair : IsPair image versioned pieces sites base x y
     pub real : is_extra_at y ≡ false
     pub stands : in_code x.next ≡ false → KeepsCalls v x → origin pieces base next ≡ u.pc
     pub opens : in_code x.next ≡ false → (rs after : List ℕ) → AreOpen v rs → returns_after rs x ≡ Some after → AreOpen next after
@@ -228,6 +231,7 @@ module _ (image versioned : Image) (pieces : List Piece) (sites : List Site) (ba
         next = u.pc;
         step_too = is_too;
         class = refl;
+        pair = as_it_was refl (ap in_code at.0 ∙ outside) (ap (site_at sites) at.0 ∙ site);
         real = real_text s x outside site at.0;
         stands = λ off keeps. states.origin_none image versioned pieces sites base levels input f u.pc (f.no_piece u.pc (ap in_code next ∙ off)).0;
         opens = λ off rs after opened e. ap (λ (cs : List ℕ). begins cs after) (off_calls pieces base u.pc (f.no_piece u.pc (ap in_code next ∙ off)).0);
@@ -321,7 +325,7 @@ module _ (image versioned : Image) (pieces : List Piece) (sites : List Site) (ba
         write_seen = λ b on. a.write_seen b (sym (ap (λ (t : ℕ → Bool). t b) a.writes) ∙ on);
       }
 
-  module _ (s : State) (v at : ℕ) (raw : IsRaw s) (is : IsPieceAt image versioned pieces sites base levels input v (Copied at)) (same : at ≡ s.pc) where
+  module _ (s : State) (v at : ℕ) (raw : IsRaw s) (found : piece_at base pieces v ≡ Some (Copied at)) (is : IsPieceAt image versioned pieces sites base levels input v (Copied at)) (same : at ≡ s.pc) where
     c : IsCopyOf image pieces base v at
     c = copy_of image pieces base v at is.right
 
@@ -401,6 +405,7 @@ module _ (image versioned : Image) (pieces : List Piece) (sites : List Site) (ba
               ∙ (ap (λ (o : Outcome). seen (hidden versioned) (loaded_byte versioned) w0 (moved_to v (seen (hidden versioned) mixed w0 o))) goes_on
               ∙ (ap (λ (t : State). goes y t) (up_of_mid (plus v 4) u) ∙ ap (λ n. goes y (up n u)) next));
           class = refl;
+          pair = in_copy (Copied at) found refl ((went_at one s x (ap (λ (o : Outcome). o.end) goes_on)).0 ∙ sym same) (copied_local x u goes_on) (copied_local x u goes_on);
           real = copied_real y refl;
           stands = λ outside keeps. c.next ∙ stays;
           opens = λ outside rs after opened e. stays_open v (v + 4) rs after x (copied_local x u goes_on) c.calls opened e;
@@ -439,7 +444,7 @@ module _ (image versioned : Image) (pieces : List Piece) (sites : List Site) (ba
   branched_to : (env : Setting) (s : State) (i : Instr) (from to : ℕ) → from ≡ to → to % 4 ≡ 0 → branches env s i true from ≡ goes (stepped env s i true None to) (record s { pc = to })
   branched_to env s i from to e even = ap (branches env s i true) e ∙ cond-true (to % 4 == 0) _ _ (eq-eqb (to % 4) 0 even)
 
-  module _ (s : State) (v at to : ℕ) (raw : IsRaw s) (is : IsPieceAt image versioned pieces sites base levels input v (Branched at to)) (same : at ≡ s.pc) where
+  module _ (s : State) (v at to : ℕ) (raw : IsRaw s) (found : piece_at base pieces v ≡ Some (Branched at to)) (is : IsPieceAt image versioned pieces sites base levels input v (Branched at to)) (same : at ≡ s.pc) where
     b : IsBranchOf image pieces base v at to
     b = branch_of image pieces base v at to is.right
 
@@ -489,6 +494,7 @@ module _ (image versioned : Image) (pieces : List Piece) (sites : List Site) (ba
           next = to;
           step_too = branch_new ∙ (ap (λ t. branches other (up v s) new t (moved_by v (distance v to))) e ∙ branched_to other (up v s) new (moved_by v (distance v to)) to (far_to v to (omega (arith, room)) branch_good.0) branch_good.1);
           class = refl;
+          pair = in_copy (Branched at to) found refl (sym same) refl refl;
           real = real_piece v (Branched at to) (stepped other (up v s) new true None to) is refl refl;
           stands = λ outside keeps. b.there ∙ branch_there;
           opens = λ outside rs after opened e. stays_open v to rs after (stepped one s old true None target) refl b.calls opened e;
@@ -512,6 +518,7 @@ module _ (image versioned : Image) (pieces : List Piece) (sites : List Site) (ba
           next = v + 4;
           step_too = branch_new ∙ (ap (λ t. branches other (up v s) new t (moved_by v (distance v to))) e ∙ ap (λ n. goes y (up n s)) next);
           class = refl;
+          pair = in_copy (Branched at to) found refl (sym same) refl refl;
           real = real_piece v (Branched at to) y is refl refl;
           stands = λ outside keeps. b.next ∙ stays;
           opens = λ outside rs after opened e. stays_open v (v + 4) rs after (stepped one s old false None (plus s.pc 4)) refl b.calls_next opened e;
@@ -520,7 +527,7 @@ module _ (image versioned : Image) (pieces : List Piece) (sites : List Site) (ba
     branched : IsPassed s v ⊎ IsEnded s v
     branched = branch_by (is_taken b.op (reg s.regs b.rs1) (reg s.regs b.rs2)) refl
 
-  module _ (s : State) (v at to : ℕ) (raw : IsRaw s) (is : IsPieceAt image versioned pieces sites base levels input v (Jumped at to)) (same : at ≡ s.pc) where
+  module _ (s : State) (v at to : ℕ) (raw : IsRaw s) (found : piece_at base pieces v ≡ Some (Jumped at to)) (is : IsPieceAt image versioned pieces sites base levels input v (Jumped at to)) (same : at ≡ s.pc) where
     jump_is : IsJumpOf image pieces base v at to
     jump_is = jump_of image pieces base v at to is.right
 
@@ -547,6 +554,7 @@ module _ (image versioned : Image) (pieces : List Piece) (sites : List Site) (ba
           next = to;
           step_too = jump_step other (up v s) v to refl stands good.0 good.1;
           class = refl;
+          pair = in_copy (Jumped at to) found refl (sym same) refl refl;
           real = real_piece v (Jumped at to) (stepped other (up v s) (jump v to) false None to) is refl refl;
           stands = λ outside keeps. j.there ∙ there;
           opens = λ outside rs after opened e. stays_open v to rs after (stepped one s old false None target) refl j.calls opened e;
@@ -561,7 +569,7 @@ module _ (image versioned : Image) (pieces : List Piece) (sites : List Site) (ba
       by true e = let low : to % 2 ^ 12 < 2 ^ 11 = grind (arith, nat_tests) in omega (arith, ints)
       by false e = let high : 2 ^ 11 ≤ to % 2 ^ 12 = grind (arith, nat_tests) in omega (arith, ints)
 
-  module _ (s : State) (v at to end : ℕ) (raw : IsRaw s) (is : IsPieceAt image versioned pieces sites base levels input v (Entered at to end)) (same : at ≡ s.pc) where
+  module _ (s : State) (v at to end : ℕ) (raw : IsRaw s) (found : piece_at base pieces v ≡ Some (Entered at to end)) (is : IsPieceAt image versioned pieces sites base levels input v (Entered at to end)) (same : at ≡ s.pc) where
     k : IsCallOf image pieces base v at to
     k = call_of image pieces base v at to end is.right
 
@@ -645,6 +653,7 @@ module _ (image versioned : Image) (pieces : List Piece) (sites : List Site) (ba
           next = to;
           step_too = third ∙ ap (λ n. goes y3 (up to (record s { pc = target; regs = slice_set s.regs 1 n }))) behind_call;
           class = refl;
+          pair = at_call v at to end found (omega arith) (sym same) refl refl;
           real = states.real_inside image versioned pieces sites base levels input f v (Entered at to end) y3 is (omega arith) (omega arith);
           stands = λ outside keeps. k.there ∙ there;
           opens = λ outside rs after opened e.
@@ -710,6 +719,7 @@ module _ (image versioned : Image) (pieces : List Piece) (sites : List Site) (ba
           next = to;
           step_too = jump_step other (up v s) v to refl (states.one_stays image versioned pieces sites base levels input f s.bytes v (jump v to) is.code.0) good.0 good.1;
           class = refl;
+          pair = at_return at to found (sym same) moves_back refl;
           real = real_piece v (Returned at to) y is refl refl;
           stands = λ outside keeps.
               let k = keeps (some_entered pieces base v m.back m.others m.open_are) in
@@ -738,12 +748,12 @@ module _ (image versioned : Image) (pieces : List Piece) (sites : List Site) (ba
       same_as p e = sym (states.origin_piece image versioned pieces sites base levels input f v p e) ∙ stands
 
       by : (p : Piece) → piece_at base pieces v ≡ Some p → is_extra p ≡ false → IsPassed s v ⊎ IsEnded s v ⊎ IsLost s
-      by (Copied at) e extra = widen s v (copied s v at raw (f.pieces_at v (Copied at) e) (same_as (Copied at) e))
-      by (Branched at to) e extra = widen s v (branched s v at to raw (f.pieces_at v (Branched at to) e) (same_as (Branched at to) e))
-      by (Jumped at to) e extra = widen s v (jumped s v at to raw (f.pieces_at v (Jumped at to) e) (same_as (Jumped at to) e))
+      by (Copied at) e extra = widen s v (copied s v at raw e (f.pieces_at v (Copied at) e) (same_as (Copied at) e))
+      by (Branched at to) e extra = widen s v (branched s v at to raw e (f.pieces_at v (Branched at to) e) (same_as (Branched at to) e))
+      by (Jumped at to) e extra = widen s v (jumped s v at to raw e (f.pieces_at v (Jumped at to) e) (same_as (Jumped at to) e))
       by (Bridge at to) e extra = let never : ⊥ = cc in absurd never
       by (Guard at larger smaller limit to) e extra = let never : ⊥ = cc in absurd never
-      by (Entered at to end) e extra = widen s v (entered s v at to end raw (f.pieces_at v (Entered at to end) e) (same_as (Entered at to end) e))
+      by (Entered at to end) e extra = widen s v (entered s v at to end raw e (f.pieces_at v (Entered at to end) e) (same_as (Entered at to end) e))
       by (Returned at to) e extra = returned_there s v at to raw e (f.pieces_at v (Returned at to) e) (same_as (Returned at to) e)
   passes s v raw outside stands (inr none) =
       let same : v ≡ s.pc = sym (states.origin_none image versioned pieces sites base levels input f v none.0) ∙ stands in

@@ -1,6 +1,7 @@
 pub mod Words
 pub mod Frame
 pub mod States
+pub mod Pairs
 pub mod Legs
 pub mod Followed
 pub mod Law

@@ -1,0 +1,10 @@
+pub mod Modes
+pub mod Pairs
+pub mod Gone
+pub mod Calls
+pub mod Steps
+pub mod Along
+pub mod Meanings
+pub mod Foreign
+pub mod Law
+pub mod Laws

@@ -1,0 +1,3 @@
+pub mod Copies
+pub mod Meanings
+pub mod Laws
