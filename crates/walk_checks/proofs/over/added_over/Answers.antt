@@ -1,4 +1,4 @@
-use Rattle.std.proofs.Common.{◌≡◌}
+use Rattle.std.proofs.Common.{◌≡◌, ◌∙◌, ap}
 use Rattle.scale_base.specs.declared.instruction.RegOp.TheVariants.{Add}
 use Rattle.scale_base.specs.declared.instruction.Instr.TheVariants.{Reg}
 use Rattle.stack_tables.specs.Tables.{stacks_in, values_in}
@@ -9,6 +9,6 @@ use Rattle.walk_checks.proofs.over.added_over.Goals as goal
 pub returns-in-Some-Some-clause-over : goal.returns-in-Some-Some-clause-over
 returns-in-Some-Some-clause-over c =
     let is : c.args.i ≡ Reg Add c.args.r c.in-Reg-Add-default-default-default.rs1 c.in-Reg-Add-default-default-default.rs2 =
-    (let a = c.in-Reg-Add-default-default-default.is in let b = c.if-rd-r.false in cc) in
+    c.in-Reg-Add-default-default-default.is ∙ (ap (λ o. Reg o c.in-Reg-Add-default-default-default.rd c.in-Reg-Add-default-default-default.rs1 c.in-Reg-Add-default-default-default.rs2) c.in-Reg-Add-default-default-default.op-is ∙ ap (λ d. Reg Add d c.in-Reg-Add-default-default-default.rs1 c.in-Reg-Add-default-default-default.rs2) c.if-rd-r.false) in
     if_some c.sum_of_both.result (λ z same. added_found (values_in c.args.case.now.claim.now) (stacks_in c.args.case.now.claim.now) (cert c.args.case.now) (at_of c.args.case.now c.args.k) c.args.i c.args.r (found_view z) c.in-Reg-Add-default-default-default.rs1 c.in-Reg-Add-default-default-default.rs2 (found_view c.in-Some-Some.y) (found_view c.in-Some-Some.z) is
     c.in-Some-Some.ensures.operand c.in-Some-Some.ensures'.operand same) c.sum_of_both.ensures.sum

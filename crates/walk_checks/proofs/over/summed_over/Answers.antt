@@ -14,6 +14,6 @@ pub returns-in-Some-clause-over : goal.returns-in-Some-clause-over
 returns-in-Some-clause-over c =
     let word : FitsSigned w32 c.in-Imm-Addi-default-default-default.imm = search rules in
     let is : c.args.i ≡ Imm Addi c.args.r c.in-Imm-Addi-default-default-default.rs1 c.in-Imm-Addi-default-default-default.imm =
-    (let a = c.in-Imm-Addi-default-default-default.is in let b = c.if-rd-r.false in cc) in
+    c.in-Imm-Addi-default-default-default.is ∙ (ap (λ o. Imm o c.in-Imm-Addi-default-default-default.rd c.in-Imm-Addi-default-default-default.rs1 c.in-Imm-Addi-default-default-default.imm) c.in-Imm-Addi-default-default-default.op-is ∙ ap (λ d. Imm Addi d c.in-Imm-Addi-default-default-default.rs1 c.in-Imm-Addi-default-default-default.imm) c.if-rd-r.false) in
     summed_found (values_in c.args.case.now.claim.now) (stacks_in c.args.case.now.claim.now) (cert c.args.case.now) (at_of c.args.case.now c.args.k) c.args.i c.args.r (found_view c.moved.result) c.in-Imm-Addi-default-default-default.rs1 c.in-Imm-Addi-default-default-default.imm c.cast_unsigned.result (found_view c.in-Some.z) is
     (c.cast_unsigned.ensures ∙ ap unsigned (to_z-of_z w32 c.in-Imm-Addi-default-default-default.imm word)) c.in-Some.ensures.operand c.moved.ensures.moved
