@@ -40,14 +40,14 @@ module _ (v : Values) (w : Stacks) (c : WalkCertificate) (a : ℕ) (i : Instr) (
   pub kept_found : keeps r i ≡ true → z ≡ c.row a r → IsRowFound v w c a i r z
   kept_found keeps same b wider = kept keeps (subst (IsWider b) same wider)
 
-  pub summed_found : (rs : ℕ) (imm : ℤ) (n : ℕ) (y : Option Trace) → i ≡ Imm Addi r rs imm → n ≡ unsigned imm → y ≡ operand v c a rs → z ≡ moved_by_number y n → IsRowFound v w c a i r z
-  summed_found rs imm n y is number from same b wider = summed rs imm is (subst (IsWider b) (same ∙ (ap (λ x. moved_by_number x n) from ∙ ap (moved_by_number (operand v c a rs)) number)) wider)
+  pub summed_found : (rs : ℕ) (imm : ℤ) → i ≡ Imm Addi r rs imm → z ≡ moved_by_number (operand v c a rs) (unsigned imm) → IsRowFound v w c a i r z
+  summed_found rs imm is same b wider = summed rs imm is (subst (IsWider b) same wider)
 
-  pub shifted_found : (rs : ℕ) (imm : ℤ) (n : ℕ) (y : Option Trace) → i ≡ Imm Slli r rs imm → n ≡ 2 ^ (unsigned imm % 32) → y ≡ operand v c a rs → z ≡ multiplied y n → IsRowFound v w c a i r z
-  shifted_found rs imm n y is number from same b wider = shifted rs imm is (subst (IsWider b) (same ∙ (ap (λ x. multiplied x n) from ∙ ap (multiplied (operand v c a rs)) number)) wider)
+  pub shifted_found : (rs : ℕ) (imm : ℤ) → i ≡ Imm Slli r rs imm → z ≡ multiplied (operand v c a rs) (2 ^ (unsigned imm % 32)) → IsRowFound v w c a i r z
+  shifted_found rs imm is same b wider = shifted rs imm is (subst (IsWider b) same wider)
 
-  pub added_found : (rs1 rs2 : ℕ) (x y : Option Trace) → i ≡ Reg Add r rs1 rs2 → x ≡ operand v c a rs1 → y ≡ operand v c a rs2 → z ≡ sum_of_both x y → IsRowFound v w c a i r z
-  added_found rs1 rs2 x y is first second same b wider = added rs1 rs2 is (subst (IsWider b) (same ∙ (ap (λ q. sum_of_both q y) first ∙ ap (sum_of_both (operand v c a rs1)) second)) wider)
+  pub added_found : (rs1 rs2 : ℕ) → i ≡ Reg Add r rs1 rs2 → z ≡ sum_of_both (operand v c a rs1) (operand v c a rs2) → IsRowFound v w c a i r z
+  added_found rs1 rs2 is same b wider = added rs1 rs2 is (subst (IsWider b) same wider)
 
   pub loaded_found : (k : ℕ) → IsLoadedTo w a i k r → z ≡ c.word a k → IsRowFound v w c a i r z
   loaded_found k is same b wider = loaded k is (subst (IsWider b) same wider)
