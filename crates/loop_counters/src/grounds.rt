@@ -54,6 +54,11 @@ fn is_apart_round(low: u32, last: u32, gap: u32) -> bool {
     u64::from(low) + WORDS > u64::from(last) + u64::from(gap)
 }
 
+// Whether a number is farther behind the last one than the gap.
+fn is_apart(last: u32, next: u32, gap: u32) -> bool {
+    u64::from(next) > u64::from(last) + u64::from(gap)
+}
+
 /// The ground of areas for steps of so many bytes at most.
 pub fn ground_of(alloc: Global, areas: &[Arc], gap: u32) -> Result<Option<Ground>, NoMemory> {
     let Some(all) = sorted_ends(alloc, areas)? else {
@@ -69,7 +74,7 @@ pub fn ground_of(alloc: Global, areas: &[Arc], gap: u32) -> Result<Option<Ground
     let (mut low, mut last) = begun;
     for ends in &all {
         let (next, end) = *ends;
-        if u64::from(next) > u64::from(last) + u64::from(gap) {
+        if is_apart(last, next, gap) {
             ground.add(low, last)?;
             low = next;
         }
