@@ -1,4 +1,6 @@
 mod Traces
+mod Opposites
+mod Written
 mod Grounds
 mod Facts
 mod Turns

@@ -17,7 +17,6 @@ use Rattle.bound_laws.proofs.Laws.{held_of, only_one, steps_leave}
 use Rattle.stack_laws.specs.Areas.{IsLaidOut}
 use Rattle.stack_laws.specs.Stacks.{Stacks, View, view_of, AreTold}
 use Rattle.stack_laws.proofs.Laws.{gets, puts, misses, usable}
-use Rattle.stack_laws.proofs.Stepping.{numbers, results}
 use Rattle.walk_areas.specs.Walking.{Trace, IsTraced, IsWider, moved_by_number, sum_of_both, multiplied, Place, number_in, WalkCertificate, row_of, operand, aim, IsRowOver, IsWordOver, IsPlaceOver, IsAimed, IsTouched, IsGround}
 use Rattle.walk_areas.specs.Walking.IsRowOver.{untraced, kept, summed, added, shifted, loaded}
 use Rattle.walk_areas.specs.Walking.IsWordOver.{untraced as untraced_word, missed, stored}
@@ -25,6 +24,7 @@ use Rattle.walk_areas.specs.Walking.Place.{in_register, in_word}
 use Rattle.walk_areas.proofs.Traces.{wider_in, same_in, number_in as sum_in, both_in, times_in, or_in}
 use Rattle.walk_areas.proofs.Grounds.{IsHere, shown}
 use Rattle.walk_areas.proofs.Facts.{Facts, aimed}
+use Rattle.walk_areas.proofs.Written.{numbers, results}
 
 twice : (n : ℕ) → n % 2 ^ 32 % 2 ^ 32 ≡ n % 2 ^ 32
 twice n = omega arith
@@ -62,16 +62,16 @@ module _ (env : Setting) (keyless : env.layout.keyed ≡ None) (v : Values) (w :
   row_over r is b (kept keep q) = wider b (c.row s.pc r) (reg after.regs r) (subst (Has (c.row s.pc r)) (sym (steps_leave env s i r here keep)) (facts.rows r is)) q
   row_over r is b (summed rs imm e q) =
       wider b (moved_by_number (operand v c s.pc rs) (unsigned imm)) (reg after.regs r)
-      (subst (Has (moved_by_number (operand v c s.pc rs) (unsigned imm))) (sym (numbers env keyless v w offsets s zero_is size begun told i here x went Addi r rs imm is e))
+      (subst (Has (moved_by_number (operand v c s.pc rs) (unsigned imm))) (sym (numbers env s size i here x went Addi r rs imm is e))
       (sum_in (operand v c s.pc rs) facts.first facts.second (reg s.regs rs) (unsigned imm) (finds rs))) q
   row_over r is b (added rs1 rs2 e q) =
       wider b (sum_of_both (operand v c s.pc rs1) (operand v c s.pc rs2)) (reg after.regs r)
-      (subst (Has (sum_of_both (operand v c s.pc rs1) (operand v c s.pc rs2))) (sym (results env keyless v w offsets s zero_is size begun told i here x went Add r rs1 rs2 is e))
+      (subst (Has (sum_of_both (operand v c s.pc rs1) (operand v c s.pc rs2))) (sym (results env s size i here x went Add r rs1 rs2 is e))
       (both_in (operand v c s.pc rs1) (operand v c s.pc rs2) facts.first facts.second (reg s.regs rs1) (reg s.regs rs2) (finds rs1) (finds rs2))) q
   row_over r is b (shifted rs imm e q) =
       let k : ℕ = 2 ^ (unsigned imm % 32) in
       wider b (multiplied (operand v c s.pc rs) k) (reg after.regs r)
-      (subst (Has (multiplied (operand v c s.pc rs) k)) (ap (λ n. n % 2 ^ 32) (mul_comm k (reg s.regs rs)) ∙ sym (numbers env keyless v w offsets s zero_is size begun told i here x went Slli r rs imm is e))
+      (subst (Has (multiplied (operand v c s.pc rs) k)) (ap (λ n. n % 2 ^ 32) (mul_comm k (reg s.regs rs)) ∙ sym (numbers env s size i here x went Slli r rs imm is e))
       (times_in (operand v c s.pc rs) facts.first facts.second (reg s.regs rs) k (finds rs))) q
   row_over r is b (loaded k loads q) =
       wider b (c.word s.pc k) (reg after.regs r)

@@ -1,4 +1,4 @@
--- The laws of walks, as statements for the contracts of functions.
+-- Scaffold: the laws of walks, as statements for the contracts of functions.
 use Rattle.std.specs.Prelude.{◌≡◌, ℕ, ◌*◌, ◌<◌, ◌≤◌, All, Some}
 use Rattle.scale_base.specs.State.{Setting, State}
 use Rattle.cost_theory.specs.Graph.{Loops}
