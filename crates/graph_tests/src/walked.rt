@@ -28,7 +28,7 @@ const WALK: [u32; 7] = [
     BREAKPOINT,
 ];
 
-/// Its loop, which turns no more often than all memory has words.
+/// Its loop, which turns no more often than there are words in most of memory.
 const LOOP: &str = "version = 2\n[[loop]]\nheader = 0x00010004\nranges = [[0x00010004, 0x00010010]]\nbound = 1000000000\n";
 
 /// The first node of the loop, and the last one.
@@ -83,7 +83,7 @@ fn table_of(
         down: false,
         least: if matches!(other, Other::Farther) { 5 } else { 4 },
         spread: if matches!(other, Other::Apart) { 0xFFFF_0000 } else { 0 },
-        width: if matches!(other, Other::Narrower) { 64 } else { 0xFFFF_FFFF },
+        width: if matches!(other, Other::Narrower) { 64 } else { 0xE000_0000 },
         ground: Vec::new(alloc),
         body: Vec::new(alloc),
         rows: Vec::new(alloc),
