@@ -36,6 +36,8 @@ mod tellers;
 #[cfg(test)]
 mod text_words;
 #[cfg(test)]
+mod walked;
+#[cfg(test)]
 mod walks;
 #[cfg(test)]
 mod worst_numbers;

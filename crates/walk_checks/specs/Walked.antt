@@ -53,6 +53,10 @@ rows_view rows = map (λ (row : Vec (Option Trace) Global). row.items) rows
 abbrev pub words_view : List (Vec WordTrace Global) → List (List WordTrace)
 words_view rows = map (λ (row : Vec WordTrace Global). row.items) rows
 
+-- an interval of the ground, by its number
+abbrev pub ground : List Arc → ℕ → Option Arc
+ground intervals k = slice_get intervals k
+
 abbrev pub certificate_of : List ℕ → WalkTable → WalkCertificate
 certificate_of nodes t = record {
   first = place_view t.first;
@@ -64,7 +68,7 @@ certificate_of nodes t = record {
   least = t.least;
   spread = t.spread;
   width = t.width;
-  ground = λ k. slice_get t.ground.items k;
+  ground = λ k. ground t.ground.items k;
   body = beside false nodes t.body.items;
   row = λ a r. trace_in (beside [] nodes (rows_view t.rows.items) a) r;
   word = λ a k. word_in (beside [] nodes (words_view t.words.items) a) k;
@@ -195,12 +199,16 @@ IsEntrySo c = (k : ℕ) × (slice_get c.claim.now.graph.now.code.nodes k ≡ Som
 
 -- one of the intervals holds an area
 abbrev pub IsHeldBy : List Arc → Arc → Type 0
-IsHeldBy ground area = (j : ℕ) × (y : Arc) × (slice_get ground j ≡ Some y) × Covers (Some y) (Some area)
+IsHeldBy intervals area = (j : ℕ) × (y : Arc) × (slice_get intervals j ≡ Some y) × Covers (Some y) (Some area)
 
 -- an interval of the ground is short enough for the width
 abbrev pub IsShort : WalkTable → Arc → Type 0
 IsShort t x = (x.more + t.least ≤ t.width) × (x.more + (t.least + t.spread) < 2 ^ 32)
 
--- nothing of one interval is within reach of another
-abbrev pub IsApartFrom : WalkTable → (k : ℕ) → Arc → Type 0
-IsApartFrom t k x = (j : ℕ) (y : Arc) → slice_get t.ground.items j ≡ Some y → (k ≡ j) ⊎ IsBeyond x y (t.least + t.spread)
+-- an interval, of number k, is that of number j, or that one is beyond it
+abbrev pub IsApartAt : WalkTable → (k : ℕ) → Arc → (j : ℕ) → Type 0
+IsApartAt t k x j = (y : Arc) → slice_get t.ground.items j ≡ Some y → (k ≡ j) ⊎ IsBeyond x y (t.least + t.spread)
+
+-- the same of each other one
+abbrev pub IsApart : WalkTable → (k : ℕ) → Type 0
+IsApart t k = (x : Arc) → slice_get t.ground.items k ≡ Some x → (j : ℕ) → j < length t.ground.items → IsApartAt t k x j

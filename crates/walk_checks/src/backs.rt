@@ -45,7 +45,7 @@ pub fn is_row_back(case: &WalkCase<'_>, call: Call, r: u8, b: Option<Trace>) -> 
         return true;
     }
     match row_back(case, call, r) {
-        Some(z) => is_wider_trace(b, z),
+        Some(z) => is_wider_trace(b, &z),
         None => false,
     }
 }
@@ -67,13 +67,7 @@ pub fn word_back(case: &WalkCase<'_>, k: usize, h: usize, number: u32) -> Option
 }
 
 /// Whether a trace is one of a word behind it.
-pub fn is_word_back(
-    case: &WalkCase<'_>,
-    k: usize,
-    h: usize,
-    number: u32,
-    b: Option<Trace>,
-) -> bool
+pub fn is_word_back(case: &WalkCase<'_>, k: usize, h: usize, number: u32, b: Option<Trace>) -> bool
     requires case { IsWalkCase case.now }
     requires from { k < length case.now.claim.now.graph.now.code.nodes }
     requires entry { h < length case.now.claim.now.graph.now.code.nodes }
@@ -84,7 +78,7 @@ pub fn is_word_back(
         return true;
     }
     match word_back(case, k, h, number) {
-        Some(z) => is_wider_trace(b, z),
+        Some(z) => is_wider_trace(b, &z),
         None => false,
     }
 }

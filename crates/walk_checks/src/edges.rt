@@ -1,6 +1,7 @@
 //! What the code says of a table of a walk, edge by edge.
 
 ghost use Rattle.std.specs.Prelude.{◌≡◌, ◌≢◌, ◌<◌, ℕ, None, Some, length, option_map, true};
+ghost use Rattle.std.specs.List.{All};
 ghost use Rattle.bound_laws.specs.Values as values;
 ghost use Rattle.bound_laws.specs.Values.{IsRegister};
 ghost use Rattle.code_text.specs.Text as text;
@@ -10,13 +11,14 @@ ghost use Rattle.scale_base.specs.declared.instruction.Instr.{Instr};
 ghost use Rattle.stack_tables.specs.Tables.{stacks_in, text_in, values_in};
 ghost use Rattle.wrapped_intervals.specs.Small.{said_view};
 ghost use Rattle.walk_areas.specs.Walking as walking;
-ghost use Rattle.walk_checks.specs.Walked.{at_of, cert, AreBack, AreOver, IsBackSo, IsCalledSo, IsEdgeWalked, IsLedSo, IsLiveSo, IsSound, IsStep, IsStepSo, IsWalkCase};
+ghost use Rattle.walk_checks.specs.declared.tables.WordTrace.{WordTrace};
+ghost use Rattle.walk_checks.specs.Walked.{at_of, cert, trace_view, AreBack, AreOver, IsBackSo, IsCalledSo, IsEdgeWalked, IsLedSo, IsLiveSo, IsSound, IsStep, IsStepSo, IsWalkCase};
 
 use crate::backs::{is_row_back, is_word_back};
 use crate::ends::{is_turn_back, is_turn_over};
 use crate::over::{is_row_over, is_word_over};
 use crate::rows::{is_body, is_quiet, is_touched, row_at, words_at};
-use crate::tables::{Call, Step, WalkCase};
+use crate::tables::{Call, Step, WalkCase, WordTrace};
 use crate::touching::is_touched_over;
 use loop_file::in_extent;
 use scale_base::Instr;
@@ -61,6 +63,22 @@ fn are_rows_over(case: &WalkCase<'_>, step: Step) -> bool
     true
 }
 
+// The same of each word of a row.
+fn are_each_over(case: &WalkCase<'_>, step: Step, row: &[WordTrace]) -> bool
+    requires case { IsWalkCase case.now }
+    requires step { IsStep case.now step }
+    ensures { result ≡ true → All (λ (x : WordTrace). walking.IsWordOver (values_in case.now.claim.now) (stacks_in case.now.claim.now)
+        (cert case.now) (at_of case.now step.from) step.instr x.number (Some (trace_view x.trace))) row.now }
+{
+    for word in row {
+        let (number, trace) = (word.number, word.trace);
+        if !is_word_over(case, step.instr, step.from, number, Some(trace)) {
+            return false;
+        }
+    }
+    true
+}
+
 // The same of each word.
 fn are_words_over(case: &WalkCase<'_>, step: Step) -> bool
     requires case { IsWalkCase case.now }
@@ -68,18 +86,7 @@ fn are_words_over(case: &WalkCase<'_>, step: Step) -> bool
     ensures { result ≡ true → (k : ℕ) → walking.IsWordOver (values_in case.now.claim.now) (stacks_in case.now.claim.now)
         (cert case.now) (at_of case.now step.from) step.instr k ((cert case.now).word (at_of case.now step.to) k) }
 {
-    for word in words_at(case, step.to) {
-        if !is_word_over(
-            case,
-            step.instr,
-            step.from,
-            word.number,
-            Some(word.trace),
-        ) {
-            return false;
-        }
-    }
-    true
+    are_each_over(case, step, words_at(case, step.to))
 }
 
 // All of a step that leads elsewhere than to the header.
@@ -154,6 +161,23 @@ fn are_rows_back(case: &WalkCase<'_>, call: Call, n: usize) -> bool
     true
 }
 
+// The same of each word of a row.
+fn are_each_back(case: &WalkCase<'_>, call: Call, row: &[WordTrace]) -> bool
+    requires case { IsWalkCase case.now }
+    requires from { call.from < length case.now.claim.now.graph.now.code.nodes }
+    requires entry { call.entry < length case.now.claim.now.graph.now.code.nodes }
+    ensures { result ≡ true → All (λ (x : WordTrace). walking.IsWordBack (values_in case.now.claim.now) (stacks_in case.now.claim.now)
+        (cert case.now) (at_of case.now call.from) (at_of case.now call.entry) x.number (Some (trace_view x.trace))) row.now }
+{
+    for word in row {
+        let (number, trace) = (word.number, word.trace);
+        if !is_word_back(case, call.from, call.entry, number, Some(trace)) {
+            return false;
+        }
+    }
+    true
+}
+
 // The same of each word.
 fn are_words_back(case: &WalkCase<'_>, call: Call, n: usize) -> bool
     requires case { IsWalkCase case.now }
@@ -163,18 +187,7 @@ fn are_words_back(case: &WalkCase<'_>, call: Call, n: usize) -> bool
     ensures { result ≡ true → (k : ℕ) → walking.IsWordBack (values_in case.now.claim.now) (stacks_in case.now.claim.now)
         (cert case.now) (at_of case.now call.from) (at_of case.now call.entry) k ((cert case.now).word (at_of case.now n) k) }
 {
-    for word in words_at(case, n) {
-        if !is_word_back(
-            case,
-            call.from,
-            call.entry,
-            word.number,
-            Some(word.trace),
-        ) {
-            return false;
-        }
-    }
-    true
+    are_each_back(case, call, words_at(case, n))
 }
 
 // All of a call that comes back elsewhere than to the header.

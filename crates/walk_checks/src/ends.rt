@@ -1,6 +1,7 @@
 //! What ends a turn.
 
 ghost use Rattle.std.specs.Prelude.{◌≡◌, ◌<◌, ℕ, List, Some, length, true, IfSome};
+ghost use Rattle.bound_laws.specs.Values.{IsRegister};
 ghost use Rattle.code_text.specs.Text as text;
 ghost use Rattle.stack_tables.specs.Tables.{stacks_in, text_in, values_in};
 ghost use Rattle.wrapped_intervals.specs.Small.{IsFoundOr, IsKeptOr};
@@ -16,6 +17,13 @@ use crate::traces::{Found, is_wider, multiplied, sum_of_both};
 use scale_base::Instr;
 use wrapped_intervals::{Arc, covers, negated, word};
 
+// Whether a register is one of x1 to x31.
+fn is_register(r: u8) -> bool
+    ensures { result ≡ true → IsRegister r }
+{
+    0 < r && r < 32
+}
+
 // The trace of what stands in a place behind the instruction of node k.
 fn place_over(case: &WalkCase<'_>, i: Instr, k: usize, place: WalkPlace) -> Option<Found>
     requires case { IsWalkCase case.now }
@@ -26,7 +34,7 @@ fn place_over(case: &WalkCase<'_>, i: Instr, k: usize, place: WalkPlace) -> Opti
 {
     match place {
         WalkPlace::Register(r) => {
-            if 0 < r && r < 32 {
+            if is_register(r) {
                 row_over(case, i, k, r)
             } else {
                 None
@@ -49,7 +57,7 @@ fn place_back(case: &WalkCase<'_>, call: Call, place: WalkPlace) -> Option<Found
 {
     match place {
         WalkPlace::Register(r) => {
-            if 0 < r && r < 32 {
+            if is_register(r) {
                 row_back(case, call, r)
             } else {
                 None
@@ -60,18 +68,18 @@ fn place_back(case: &WalkCase<'_>, call: Call, place: WalkPlace) -> Option<Found
 }
 
 // The pointer, by what stands in both places.
-fn pointer(table: &WalkTable, first: Found, second: Found) -> Option<Found>
-    requires first { IsKeptOr first.more }
-    requires second { IsKeptOr second.more }
+fn pointer(table: &WalkTable, first: &Found, second: &Found) -> Option<Found>
+    requires first { IsKeptOr first.now.more }
+    requires second { IsKeptOr second.now.more }
     ensures pointer { IfSome result (λ z. (nodes : List ℕ) → found_view z ≡ walking.pointer (certificate_of nodes table.now)
-        (found_view first) (found_view second)) }
+        (found_view first.now) (found_view second.now)) }
     ensures found { IfSome result (λ z. IsFoundOr z.more) }
 {
     match (
         multiplied(first, table.first_factor),
         multiplied(second, table.second_factor),
     ) {
-        (Some(y), Some(z)) => sum_of_both(y, z),
+        (Some(y), Some(z)) => sum_of_both(&y, &z),
         _ => None,
     }
 }
@@ -92,9 +100,9 @@ fn steps_of(down: bool, i: Option<Arc>) -> Option<Arc>
 }
 
 // Whether the pointer is a step behind that of the turn's start, or before it.
-fn is_moved(table: &WalkTable, z: Found) -> bool
-    requires { IsFoundOr z.more }
-    ensures { result ≡ true → (nodes : List ℕ) → walking.IsMoved (certificate_of nodes table.now) (found_view z) }
+fn is_moved(table: &WalkTable, z: &Found) -> bool
+    requires { IsFoundOr z.now.more }
+    ensures { result ≡ true → (nodes : List ℕ) → walking.IsMoved (certificate_of nodes table.now) (found_view z.now) }
 {
     let steps = Some(Arc::of(u64::from(table.least), u64::from(table.spread)));
     z.firsts == u64::from(table.first_factor)
@@ -103,13 +111,13 @@ fn is_moved(table: &WalkTable, z: Found) -> bool
 }
 
 // The same, by what stands in both places.
-fn is_pointer_moved(table: &WalkTable, first: Found, second: Found) -> bool
-    requires first { IsFoundOr first.more }
-    requires second { IsFoundOr second.more }
-    ensures first { result ≡ true → walking.IsWider (found_view first) (found_view first) }
-    ensures second { result ≡ true → walking.IsWider (found_view second) (found_view second) }
+fn is_pointer_moved(table: &WalkTable, first: &Found, second: &Found) -> bool
+    requires first { IsFoundOr first.now.more }
+    requires second { IsFoundOr second.now.more }
+    ensures first { result ≡ true → walking.IsWider (found_view first.now) (found_view first.now) }
+    ensures second { result ≡ true → walking.IsWider (found_view second.now) (found_view second.now) }
     ensures moved { result ≡ true → (nodes : List ℕ) → walking.IsMoved (certificate_of nodes table.now)
-        (walking.pointer (certificate_of nodes table.now) (found_view first) (found_view second)) }
+        (walking.pointer (certificate_of nodes table.now) (found_view first.now) (found_view second.now)) }
 {
     if !is_wider(first, first) {
         return false;
@@ -118,7 +126,7 @@ fn is_pointer_moved(table: &WalkTable, first: Found, second: Found) -> bool
         return false;
     }
     match pointer(table, first, second) {
-        Some(z) => is_moved(table, z),
+        Some(z) => is_moved(table, &z),
         None => false,
     }
 }
@@ -130,16 +138,19 @@ pub fn is_turn_over(case: &WalkCase<'_>, i: Instr, k: usize) -> bool
     ensures { result ≡ true → walking.IsTurnOver (values_in case.now.claim.now) (stacks_in case.now.claim.now) (cert case.now)
         (at_of case.now k) i }
 {
-    let Some(first) = place_over(case, i, k, case.table.first) else {
-        return false;
-    };
-    let Some(second) = place_over(case, i, k, case.table.second) else {
-        return false;
-    };
-    if !is_pointer_moved(case.table, first, second) {
-        return false;
+    let table = case.table;
+    match (
+        place_over(case, i, k, table.first),
+        place_over(case, i, k, table.second),
+    ) {
+        (Some(first), Some(second)) => {
+            if !is_pointer_moved(table, &first, &second) {
+                return false;
+            }
+            is_touched_over(case, i, k)
+        }
+        _ => false,
     }
-    is_touched_over(case, i, k)
 }
 
 /// Whether a call ends a turn as the table says.
@@ -151,14 +162,17 @@ pub fn is_turn_back(case: &WalkCase<'_>, call: Call) -> bool
     ensures { result ≡ true → walking.IsTurnBack (text_in case.now.claim.now) (values_in case.now.claim.now)
         (stacks_in case.now.claim.now) (cert case.now) (at_of case.now call.from) (at_of case.now call.entry) }
 {
-    let Some(first) = place_back(case, call, case.table.first) else {
-        return false;
-    };
-    let Some(second) = place_back(case, call, case.table.second) else {
-        return false;
-    };
-    if !is_pointer_moved(case.table, first, second) {
-        return false;
+    let table = case.table;
+    match (
+        place_back(case, call, table.first),
+        place_back(case, call, table.second),
+    ) {
+        (Some(first), Some(second)) => {
+            if !is_pointer_moved(table, &first, &second) {
+                return false;
+            }
+            is_touched(case, call.from)
+        }
+        _ => false,
     }
-    is_touched(case, call.from)
 }

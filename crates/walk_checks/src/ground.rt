@@ -1,12 +1,12 @@
 //! The ground of a walk: intervals that hold all that may be accessed, each farther from the others than a step.
 
-ghost use Rattle.std.specs.Prelude.{◌≡◌, ◌⊎◌, ◌<◌, ◌+◌, ◌^◌, ℕ, List, Some, length, slice_get, true};
+ghost use Rattle.std.specs.Prelude.{◌≡◌, ◌<◌, ◌+◌, ◌^◌, ℕ, List, Some, length, slice_get, true};
 ghost use Rattle.std.specs.List.{All};
 ghost use Rattle.bound_laws.specs.Values as values;
 ghost use Rattle.stack_tables.specs.Tables.{stacks_in, IsStackClaim};
 ghost use Rattle.wrapped_intervals.specs.Small.{IsKept};
 ghost use Rattle.walk_areas.specs.Walking as walking;
-ghost use Rattle.walk_checks.specs.Walked.{certificate_of, IsApartFrom, IsHeldBy, IsShort};
+ghost use Rattle.walk_checks.specs.Walked.{certificate_of, IsApart, IsApartAt, IsHeldBy, IsShort};
 
 use crate::tables::{MOST_GROUND, WalkTable};
 use stack_tables::{StackClaim, areas};
@@ -16,13 +16,13 @@ use wrapped_intervals::{Arc, ahead, covers, is_kept};
 const WORDS: u64 = 4_294_967_296;
 
 // Whether one of the intervals holds an area.
-fn is_held(ground: &[Arc], area: Arc) -> bool
-    requires ground { All IsKept ground.now }
+fn is_held(intervals: &[Arc], area: Arc) -> bool
+    requires intervals { All IsKept intervals.now }
     requires area { IsKept area }
-    ensures { result ≡ true → IsHeldBy ground.now area }
+    ensures { result ≡ true → IsHeldBy intervals.now area }
 {
-    for j in 0..ground.len() {
-        if covers(Some(ground[j]), Some(area)) {
+    for j in 0..intervals.len() {
+        if covers(Some(intervals[j]), Some(area)) {
             return true;
         }
     }
@@ -30,39 +30,56 @@ fn is_held(ground: &[Arc], area: Arc) -> bool
 }
 
 // The same of each area.
-fn are_held(ground: &[Arc], areas: &[Arc]) -> bool
-    requires ground { All IsKept ground.now }
+fn are_held(intervals: &[Arc], areas: &[Arc]) -> bool
+    requires intervals { All IsKept intervals.now }
     requires areas { All IsKept areas.now }
-    ensures { result ≡ true → All (λ (x : values.Arc). IsHeldBy ground.now x) areas.now }
+    ensures { result ≡ true → All (λ (x : values.Arc). IsHeldBy intervals.now x) areas.now }
 {
     for area in areas {
-        if !is_held(ground, *area) {
+        if !is_held(intervals, *area) {
             return false;
         }
     }
     true
 }
 
-// Whether an interval is one that is kept, and short enough for the width.
-fn is_short(table: &WalkTable, x: Arc) -> bool
-    ensures kept { result ≡ true → IsKept x }
-    ensures short { result ≡ true → IsShort table.now x }
+// How far a step goes at most.
+fn gap_of(table: &WalkTable) -> u64
+    ensures gap { result ≡ table.now.least + table.now.spread }
+    ensures small { result < 2 ^ 33 }
 {
-    if !is_kept(Some(x)) {
-        return false;
-    }
-    let least = u64::from(table.least);
-    x.more() + least <= u64::from(table.width)
-        && x.more() + least + u64::from(table.spread) < WORDS
+    let (least, spread) = (table.least, table.spread);
+    u64::from(least) + u64::from(spread)
+}
+
+// Whether an interval is short enough for the width.
+fn is_within(table: &WalkTable, x: Arc) -> bool
+    requires { IsKept x }
+    ensures { result ≡ true → IsShort table.now x }
+{
+    let (least, width) = (table.least, table.width);
+    x.more() + u64::from(least) <= u64::from(width) && x.more() + gap_of(table) < WORDS
 }
 
 // The same of each one.
-fn are_short(table: &WalkTable) -> bool
-    ensures kept { result ≡ true → All IsKept table.now.ground.items }
-    ensures short { result ≡ true → All (λ (x : values.Arc). IsShort table.now x) table.now.ground.items }
+fn are_within(table: &WalkTable, intervals: &[Arc]) -> bool
+    requires { All IsKept intervals.now }
+    ensures { result ≡ true → All (λ (x : values.Arc). IsShort table.now x) intervals.now }
 {
-    for x in &table.ground {
-        if !is_short(table, *x) {
+    for x in intervals {
+        if !is_within(table, *x) {
+            return false;
+        }
+    }
+    true
+}
+
+// Whether each one is short enough to be kept.
+fn are_kept(intervals: &[Arc]) -> bool
+    ensures { result ≡ true → All IsKept intervals.now }
+{
+    for x in intervals {
+        if !is_kept(Some(*x)) {
             return false;
         }
     }
@@ -76,31 +93,60 @@ fn is_beyond(table: &WalkTable, x: Arc, y: Arc) -> bool
     ensures { result ≡ true → walking.IsBeyond x y (table.now.least + table.now.spread) }
 {
     let distance = ahead(x.low(), y.low());
-    x.more() + u64::from(table.least) + u64::from(table.spread) < distance
-        && distance + y.more() < WORDS
+    x.more() + gap_of(table) < distance && distance + y.more() < WORDS
+}
+
+// An interval of the ground, by its number.
+fn interval(table: &WalkTable, k: usize) -> Arc
+    requires { k < length table.now.ground.items }
+    ensures { slice_get table.now.ground.items k ≡ Some result }
+{
+    table.ground[k]
+}
+
+// Whether an interval of number k is that of number j, or the other one is beyond it.
+fn is_apart_at(table: &WalkTable, k: usize, x: Arc, j: usize) -> bool
+    requires intervals { All IsKept table.now.ground.items }
+    requires x { IsKept x }
+    requires other { j < length table.now.ground.items }
+    ensures { result ≡ true → IsApartAt table.now k x j }
+{
+    if k == j {
+        return true;
+    }
+    is_beyond(table, x, interval(table, j))
 }
 
 // The same of each other one.
 fn is_apart(table: &WalkTable, k: usize, x: Arc) -> bool
-    requires ground { All IsKept table.now.ground.items }
+    requires intervals { All IsKept table.now.ground.items }
     requires x { IsKept x }
-    ensures { result ≡ true → IsApartFrom table.now k x }
+    ensures { result ≡ true → (j : ℕ) → j < length table.now.ground.items → IsApartAt table.now k x j }
 {
     for j in 0..table.ground.len() {
-        if k != j && !is_beyond(table, x, table.ground[j]) {
+        if !is_apart_at(table, k, x, j) {
             return false;
         }
     }
     true
 }
 
-// The same of each one.
+// The same of the interval of a number.
+fn is_apart_from_all(table: &WalkTable, k: usize) -> bool
+    requires intervals { All IsKept table.now.ground.items }
+    requires number { k < length table.now.ground.items }
+    ensures { result ≡ true → IsApart table.now k }
+{
+    is_apart(table, k, interval(table, k))
+}
+
+// And of each one.
 fn are_apart(table: &WalkTable) -> bool
     requires { All IsKept table.now.ground.items }
-    ensures { result ≡ true → (k : ℕ) (x : values.Arc) → slice_get table.now.ground.items k ≡ Some x → IsApartFrom table.now k x }
+    ensures { result ≡ true → (k : ℕ) → k < length table.now.ground.items → IsApart table.now k }
 {
     for k in 0..table.ground.len() {
-        if !is_apart(table, k, table.ground[k]) {
+        if !is_apart_from_all(table, k) {
             return false;
         }
     }
@@ -115,7 +161,10 @@ pub fn is_ground(claim: &StackClaim<'_>, table: &WalkTable) -> bool
     if table.ground.len() > MOST_GROUND {
         return false;
     }
-    if !are_short(table) {
+    if !are_kept(&table.ground) {
+        return false;
+    }
+    if !are_within(table, &table.ground) {
         return false;
     }
     if !are_held(&table.ground, areas(claim)) {

@@ -1,6 +1,7 @@
 //! What an instruction of a loop leaves of traces.
 
-ghost use Rattle.std.specs.Prelude.{◌≡◌, ◌<◌, true, length, IfSome};
+ghost use Rattle.std.specs.Prelude.{◌≡◌, ◌<◌, ◌%◌, ◌^◌, true, length, IfSome};
+ghost use Rattle.scale_base.specs.Arith.{unsigned};
 ghost use Rattle.stack_tables.specs.Tables.{stacks_in, values_in};
 ghost use Rattle.wrapped_intervals.specs.Small.{IsFoundOr};
 ghost use Rattle.walk_areas.specs.Walking as walking;
@@ -24,59 +25,79 @@ pub fn known_of(trace: Option<Trace>) -> Option<Found>
     }
 }
 
-// That of a register to which a number is added.
-fn summed_over(case: &WalkCase<'_>, i: Instr, k: usize, r: u8) -> Option<Found>
+// The sum of a register and a number.
+fn summed(case: &WalkCase<'_>, k: usize, rs1: u8, imm: i32) -> Option<Found>
+    requires case { IsWalkCase case.now }
+    requires from { k < length case.now.claim.now.graph.now.code.nodes }
+    ensures summed { IfSome result (λ z. found_view z ≡ walking.moved_by_number
+        (walking.operand (values_in case.now.claim.now) (cert case.now) (at_of case.now k) rs1) (unsigned imm)) }
+    ensures found { IfSome result (λ z. IsFoundOr z.more) }
+{
+    match operand(case, k, rs1) {
+        Some(z) => Some(moved(&z, imm.cast_unsigned())),
+        None => None,
+    }
+}
+
+// The power of 2 by which a shift multiplies.
+fn power_of(n: u32) -> u32
+    requires { n < 32 }
+    ensures { result ≡ 2 ^ n }
+{
+    1u32 << n
+}
+
+// A register that is shifted to the left.
+fn shifted(case: &WalkCase<'_>, k: usize, rs1: u8, imm: i32) -> Option<Found>
+    requires case { IsWalkCase case.now }
+    requires from { k < length case.now.claim.now.graph.now.code.nodes }
+    ensures shifted { IfSome result (λ z. found_view z ≡ walking.multiplied
+        (walking.operand (values_in case.now.claim.now) (cert case.now) (at_of case.now k) rs1) (2 ^ (unsigned imm % 32))) }
+    ensures found { IfSome result (λ z. IsFoundOr z.more) }
+{
+    match operand(case, k, rs1) {
+        Some(z) => multiplied(&z, power_of(imm.cast_unsigned() % 32)),
+        None => None,
+    }
+}
+
+// The sum of two registers.
+fn added(case: &WalkCase<'_>, k: usize, rs1: u8, rs2: u8) -> Option<Found>
+    requires case { IsWalkCase case.now }
+    requires from { k < length case.now.claim.now.graph.now.code.nodes }
+    ensures added { IfSome result (λ z. found_view z ≡ walking.sum_of_both
+        (walking.operand (values_in case.now.claim.now) (cert case.now) (at_of case.now k) rs1)
+        (walking.operand (values_in case.now.claim.now) (cert case.now) (at_of case.now k) rs2)) }
+    ensures found { IfSome result (λ z. IsFoundOr z.more) }
+{
+    match (operand(case, k, rs1), operand(case, k, rs2)) {
+        (Some(y), Some(z)) => sum_of_both(&y, &z),
+        _ => None,
+    }
+}
+
+// The trace of a register that an operation with a number writes.
+fn numbered_over(case: &WalkCase<'_>, i: Instr, k: usize, r: u8) -> Option<Found>
     requires case { IsWalkCase case.now }
     requires from { k < length case.now.claim.now.graph.now.code.nodes }
     ensures over { IfSome result (λ z. IsRowFound (values_in case.now.claim.now) (stacks_in case.now.claim.now) (cert case.now)
         (at_of case.now k) i r (found_view z)) }
     ensures found { IfSome result (λ z. IsFoundOr z.more) }
 {
-    let Instr::Imm {
-        op: ImmOp::Addi,
-        rd,
-        rs1,
-        imm,
-    } = i
-    else {
+    let Instr::Imm { op, rd, rs1, imm } = i else {
         return None;
     };
     if rd != r {
         return None;
     }
-    match operand(case, k, rs1) {
-        Some(z) => Some(moved(z, imm.cast_unsigned())),
-        None => None,
+    match op {
+        ImmOp::Addi => summed(case, k, rs1, imm),
+        ImmOp::Slli => shifted(case, k, rs1, imm),
+        _ => None,
     }
 }
 
-// Of one that is shifted to the left.
-fn shifted_over(case: &WalkCase<'_>, i: Instr, k: usize, r: u8) -> Option<Found>
-    requires case { IsWalkCase case.now }
-    requires from { k < length case.now.claim.now.graph.now.code.nodes }
-    ensures over { IfSome result (λ z. IsRowFound (values_in case.now.claim.now) (stacks_in case.now.claim.now) (cert case.now)
-        (at_of case.now k) i r (found_view z)) }
-    ensures found { IfSome result (λ z. IsFoundOr z.more) }
-{
-    let Instr::Imm {
-        op: ImmOp::Slli,
-        rd,
-        rs1,
-        imm,
-    } = i
-    else {
-        return None;
-    };
-    if rd != r {
-        return None;
-    }
-    match operand(case, k, rs1) {
-        Some(z) => multiplied(z, 1u32 << (imm.cast_unsigned() % 32)),
-        None => None,
-    }
-}
-
-// Of a sum of two.
+// Of one that an operation with two registers writes.
 fn added_over(case: &WalkCase<'_>, i: Instr, k: usize, r: u8) -> Option<Found>
     requires case { IsWalkCase case.now }
     requires from { k < length case.now.claim.now.graph.now.code.nodes }
@@ -84,20 +105,14 @@ fn added_over(case: &WalkCase<'_>, i: Instr, k: usize, r: u8) -> Option<Found>
         (at_of case.now k) i r (found_view z)) }
     ensures found { IfSome result (λ z. IsFoundOr z.more) }
 {
-    let Instr::Reg {
-        op: RegOp::Add,
-        rd,
-        rs1,
-        rs2,
-    } = i
-    else {
+    let Instr::Reg { op, rd, rs1, rs2 } = i else {
         return None;
     };
     if rd != r {
         return None;
     }
-    match (operand(case, k, rs1), operand(case, k, rs2)) {
-        (Some(y), Some(z)) => sum_of_both(y, z),
+    match op {
+        RegOp::Add => added(case, k, rs1, rs2),
         _ => None,
     }
 }
@@ -132,19 +147,13 @@ fn written_over(case: &WalkCase<'_>, i: Instr, k: usize, r: u8) -> Option<Found>
 {
     match i {
         Instr::Imm {
-            op: ImmOp::Addi,
+            op: _,
             rd: _,
             rs1: _,
             imm: _,
-        } => summed_over(case, i, k, r),
-        Instr::Imm {
-            op: ImmOp::Slli,
-            rd: _,
-            rs1: _,
-            imm: _,
-        } => shifted_over(case, i, k, r),
+        } => numbered_over(case, i, k, r),
         Instr::Reg {
-            op: RegOp::Add,
+            op: _,
             rd: _,
             rs1: _,
             rs2: _,
@@ -179,7 +188,7 @@ pub fn is_row_over(case: &WalkCase<'_>, i: Instr, k: usize, r: u8, b: Option<Tra
         return true;
     }
     match row_over(case, i, k, r) {
-        Some(z) => is_wider_trace(b, z),
+        Some(z) => is_wider_trace(b, &z),
         None => false,
     }
 }
@@ -220,13 +229,7 @@ pub fn word_over(case: &WalkCase<'_>, i: Instr, k: usize, number: u32) -> Option
 }
 
 /// Whether a trace is one of a word behind it.
-pub fn is_word_over(
-    case: &WalkCase<'_>,
-    i: Instr,
-    k: usize,
-    number: u32,
-    b: Option<Trace>,
-) -> bool
+pub fn is_word_over(case: &WalkCase<'_>, i: Instr, k: usize, number: u32, b: Option<Trace>) -> bool
     requires case { IsWalkCase case.now }
     requires from { k < length case.now.claim.now.graph.now.code.nodes }
     ensures { result ≡ true → walking.IsWordOver (values_in case.now.claim.now) (stacks_in case.now.claim.now) (cert case.now)
@@ -236,7 +239,7 @@ pub fn is_word_over(
         return true;
     }
     match word_over(case, i, k, number) {
-        Some(z) => is_wider_trace(b, z),
+        Some(z) => is_wider_trace(b, &z),
         None => false,
     }
 }

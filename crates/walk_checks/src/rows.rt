@@ -1,11 +1,11 @@
 //! What stands at a node in a table of a walk.
 
-ghost use Rattle.std.specs.Prelude.{◌≡◌, ◌<◌, [], false, length, slice_get, IfSome};
+ghost use Rattle.std.specs.Prelude.{◌≡◌, ◌<◌, ℕ, [], false, length, slice_get, IfSome};
 ghost use Rattle.value_checks.specs.Tables.{or_other};
-ghost use Rattle.stack_tables.specs.Tables.{IsStackClaim, address, values_in};
+ghost use Rattle.stack_tables.specs.Tables.{values_in};
 ghost use Rattle.wrapped_intervals.specs.Small.{IsKeptOr};
 ghost use Rattle.walk_areas.specs.Walking as walking;
-ghost use Rattle.walk_checks.specs.Walked.{at_of, cert, certificate_in, found_view, rows_view, traced_view, trace_in, word_in, words_view, AreWalks, IsWalkCase};
+ghost use Rattle.walk_checks.specs.Walked.{at_of, cert, found_view, rows_view, traced_view, trace_in, word_in, words_view, IsWalkCase};
 
 use crate::tables::{Trace, WalkCase, WalkTable, WordTrace};
 use crate::traces::{Found, by_interval, known};

@@ -1,21 +1,25 @@
 //! Bounds that the code shows by a walk through memory.
 
-ghost use Rattle.std.specs.Prelude.{◌≡◌, ◌≤◌, ◌<◌, ◌/◌, ℕ, List, length, true};
+ghost use Rattle.std.specs.Prelude.{◌≡◌, ◌≤◌, ◌<◌, ◌/◌, ℕ, List, Some, true};
+ghost use Rattle.std.specs.List.{All};
+ghost use Rattle.bound_laws.specs.Values as values;
 ghost use Rattle.bound_laws.specs.Values.{IsRegister};
 ghost use Rattle.code_text.specs.Text.{text_of};
 ghost use Rattle.code_text.specs.TextGraph.{text_graph};
 ghost use Rattle.loop_file.specs.declared.notes.LoopNote.{LoopNote};
 ghost use Rattle.loop_file.specs.Kept.{note_at, noted_loops};
 ghost use Rattle.value_checks.specs.Tables.{values_of};
-ghost use Rattle.stack_tables.specs.Tables.{stacks_in, stacks_of, IsStackClaim};
+ghost use Rattle.stack_tables.specs.Tables.{stacks_of, IsStackClaim};
+ghost use Rattle.wrapped_intervals.specs.Small.{IsFoundOr};
 ghost use Rattle.walk_areas.specs.Walking as walking;
 ghost use Rattle.walk_areas.specs.Walking.Place.{in_register, in_word};
-ghost use Rattle.walk_checks.specs.Walked.{at_of, cert, certificate_of, place_view, traced_view, AreEdgesWalked, AreWalks, IsEntrySo, IsHeaderSo, IsWalkCase};
+ghost use Rattle.walk_checks.specs.declared.tables.WordTrace.{WordTrace};
+ghost use Rattle.walk_checks.specs.Walked.{at_of, cert, certificate_of, found_view, place_view, trace_view, traced_view, AreEdgesWalked, AreWalks, IsEntrySo, IsHeaderSo, IsWalkCase};
 
 use crate::edges::is_edge_walked;
 use crate::ground::is_ground;
 use crate::rows::{is_body, is_quiet, is_touched, row_at, words_at};
-use crate::tables::{Trace, WalkCase, WalkPlace, WalkTable};
+use crate::tables::{Trace, WalkCase, WalkPlace, WalkTable, WordTrace};
 use crate::traces::{Found, is_wider_trace};
 use flow_graph::CodeGraph;
 use loop_file::LoopNote;
@@ -55,13 +59,28 @@ fn is_same_place(p: WalkPlace, q: WalkPlace) -> bool
     }
 }
 
-// The trace of a number itself.
-fn itself(firsts: u64, seconds: u64) -> Found {
+// The trace of a number itself, which is so many times the numbers of both places.
+fn itself(firsts: u64, seconds: u64) -> Found
+    ensures itself { found_view result ≡ walking.traced firsts seconds (Some (values.strided 0 0 0)) }
+    ensures found { IsFoundOr result.more }
+{
     Found {
         firsts,
         seconds,
         more: Some(Arc::strided(0, 0, 0)),
     }
+}
+
+// Whether a place is the other one, and a trace says no more than that it has that number.
+fn is_own(p: WalkPlace, q: WalkPlace, b: Option<Trace>, firsts: u64, seconds: u64) -> bool
+    ensures place { result ≡ true → place_view p ≡ place_view q }
+    ensures own { result ≡ true → walking.IsWider (traced_view b) (walking.traced firsts seconds (Some (values.strided 0 0 0))) }
+{
+    if !is_same_place(p, q) {
+        return false;
+    }
+    let own = itself(firsts, seconds);
+    is_wider_trace(b, &own)
 }
 
 // Whether nothing is known of a place at the header, or that it has its own number.
@@ -71,10 +90,10 @@ fn is_begun(table: &WalkTable, place: WalkPlace, b: Option<Trace>) -> bool
     if b.is_none() {
         return true;
     }
-    if is_same_place(table.first, place) && is_wider_trace(b, itself(1, 0)) {
+    if is_own(table.first, place, b, 1, 0) {
         return true;
     }
-    is_same_place(table.second, place) && is_wider_trace(b, itself(0, 1))
+    is_own(table.second, place, b, 0, 1)
 }
 
 // The same of each register.
@@ -95,18 +114,26 @@ fn are_rows_begun(case: &WalkCase<'_>) -> bool
     true
 }
 
-// And of each word.
+// And of each word of a row.
+fn are_each_begun(table: &WalkTable, row: &[WordTrace]) -> bool
+    ensures { result ≡ true → All (λ (x : WordTrace). (nodes : List ℕ) → walking.IsBegun (certificate_of nodes table.now) (in_word x.number)
+        (Some (trace_view x.trace))) row.now }
+{
+    for word in row {
+        if !is_begun(table, WalkPlace::Word(word.number), Some(word.trace)) {
+            return false;
+        }
+    }
+    true
+}
+
+// The same of the header's words.
 fn are_words_begun(case: &WalkCase<'_>) -> bool
     requires case { IsWalkCase case.now }
     ensures { result ≡ true → (k : ℕ) → walking.IsBegun (cert case.now) (in_word k)
         ((cert case.now).word (at_of case.now case.now.header) k) }
 {
-    for word in words_at(case, case.header) {
-        if !is_begun(case.table, WalkPlace::Word(word.number), Some(word.trace)) {
-            return false;
-        }
-    }
-    true
+    are_each_begun(case.table, words_at(case, case.header))
 }
 
 // What the code says of the header.

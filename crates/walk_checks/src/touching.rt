@@ -45,17 +45,27 @@ fn aim(table: &WalkTable) -> Found
     }
 }
 
+// Whether it is so far from what a register holds before node k.
+fn is_aimed_by(case: &WalkCase<'_>, k: usize, register: u8, more: u32) -> bool
+    requires case { IsWalkCase case.now }
+    requires from { k < length case.now.claim.now.graph.now.code.nodes }
+    ensures { result ≡ true → walking.IsWider (walking.aim (cert case.now)) (walking.moved_by_number
+        (walking.operand (values_in case.now.claim.now) (cert case.now) (at_of case.now k) register) more) }
+{
+    match operand(case, k, register) {
+        Some(z) => is_wider(&aim(case.table), &moved(&z, more)),
+        None => false,
+    }
+}
+
 // Whether the instruction of node k accesses memory there.
 fn is_aimed(case: &WalkCase<'_>, i: Instr, k: usize) -> bool
     requires case { IsWalkCase case.now }
     requires from { k < length case.now.claim.now.graph.now.code.nodes }
     ensures { result ≡ true → walking.IsAimed (values_in case.now.claim.now) (cert case.now) (at_of case.now k) i }
 {
-    let Some((register, more)) = access_of(i) else {
-        return false;
-    };
-    match operand(case, k, register) {
-        Some(z) => is_wider(aim(case.table), moved(z, more)),
+    match access_of(i) {
+        Some((register, more)) => is_aimed_by(case, k, register, more),
         None => false,
     }
 }

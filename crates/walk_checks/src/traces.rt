@@ -1,7 +1,6 @@
 //! Traces of values, and what sums and multiples make of them.
 
-ghost use Rattle.std.specs.Prelude.{◌≡◌, ◌×◌, IfSome, Some, true};
-ghost use Rattle.scale_base.specs.Arith as arith;
+ghost use Rattle.std.specs.Prelude.{◌≡◌, IfSome, Some, true};
 ghost use Rattle.wrapped_intervals.specs.Small.{IsFoundOr, IsKeptOr};
 ghost use Rattle.walk_areas.specs.Walking as walking;
 ghost use Rattle.walk_checks.specs.Walked.{found_view, trace_view, traced_view};
@@ -50,25 +49,22 @@ pub fn by_interval(i: Option<Arc>) -> Option<Found>
 }
 
 /// Whether a trace says no more than another. Its interval is short enough to be kept then.
-pub fn is_wider(b: Found, z: Found) -> bool
-    requires { IsFoundOr z.more }
-    ensures wider { result ≡ true → walking.IsWider (found_view b) (found_view z) }
-    ensures kept { result ≡ true → IsKeptOr b.more }
+pub fn is_wider(b: &Found, z: &Found) -> bool
+    requires { IsFoundOr z.now.more }
+    ensures wider { result ≡ true → walking.IsWider (found_view b.now) (found_view z.now) }
+    ensures kept { result ≡ true → IsKeptOr b.now.more }
 {
-    is_kept(b.more)
-        && b.firsts == z.firsts
-        && b.seconds == z.seconds
-        && covers(b.more, z.more)
+    is_kept(b.more) && b.firsts == z.firsts && b.seconds == z.seconds && covers(b.more, z.more)
 }
 
 /// The same of what a table says, which may be nothing.
-pub fn is_wider_trace(b: Option<Trace>, z: Found) -> bool
-    requires { IsFoundOr z.more }
-    ensures { result ≡ true → walking.IsWider (traced_view b) (found_view z) }
+pub fn is_wider_trace(b: Option<Trace>, z: &Found) -> bool
+    requires { IsFoundOr z.now.more }
+    ensures { result ≡ true → walking.IsWider (traced_view b) (found_view z.now) }
 {
     match b {
         Some(b) => match known(b) {
-            Some(b) => is_wider(b, z),
+            Some(b) => is_wider(&b, z),
             None => false,
         },
         None => true,
@@ -76,9 +72,9 @@ pub fn is_wider_trace(b: Option<Trace>, z: Found) -> bool
 }
 
 /// The sum with a number.
-pub fn moved(z: Found, n: u32) -> Found
-    requires { IsFoundOr z.more }
-    ensures moved { found_view result ≡ walking.moved_by_number (found_view z) n }
+pub fn moved(z: &Found, n: u32) -> Found
+    requires { IsFoundOr z.now.more }
+    ensures moved { found_view result ≡ walking.moved_by_number (found_view z.now) n }
     ensures found { IsFoundOr result.more }
 {
     Found {
@@ -89,10 +85,10 @@ pub fn moved(z: Found, n: u32) -> Found
 }
 
 /// The sum of both, where its numbers of times have at most 64 bits.
-pub fn sum_of_both(y: Found, z: Found) -> Option<Found>
-    requires y { IsFoundOr y.more }
-    requires z { IsFoundOr z.more }
-    ensures sum { IfSome result (λ s. found_view s ≡ walking.sum_of_both (found_view y) (found_view z)) }
+pub fn sum_of_both(y: &Found, z: &Found) -> Option<Found>
+    requires y { IsFoundOr y.now.more }
+    requires z { IsFoundOr z.now.more }
+    ensures sum { IfSome result (λ s. found_view s ≡ walking.sum_of_both (found_view y.now) (found_view z.now)) }
     ensures found { IfSome result (λ s. IsFoundOr s.more) }
 {
     match (
@@ -109,9 +105,9 @@ pub fn sum_of_both(y: Found, z: Found) -> Option<Found>
 }
 
 /// So many times the value, where its numbers of times have at most 64 bits.
-pub fn multiplied(z: Found, n: u32) -> Option<Found>
-    requires { IsKeptOr z.more }
-    ensures product { IfSome result (λ s. found_view s ≡ walking.multiplied (found_view z) n) }
+pub fn multiplied(z: &Found, n: u32) -> Option<Found>
+    requires { IsKeptOr z.now.more }
+    ensures product { IfSome result (λ s. found_view s ≡ walking.multiplied (found_view z.now) n) }
     ensures found { IfSome result (λ s. IsFoundOr s.more) }
 {
     match (

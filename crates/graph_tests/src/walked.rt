@@ -1,0 +1,172 @@
+//! Walks through memory: a table that the code confirms, and some that it doesn't.
+
+ghost use Rattle.code_text.specs.Text.{text_of};
+ghost use Rattle.flow_graph.specs.FlowGraph.{IsGraphOf};
+
+use crate::programs::{BREAKPOINT, ECALL, EXIT, START, image_of, view_of};
+use code_graph::build_graph;
+use elf_view::ImageView;
+use flow_graph::CodeGraph;
+use loop_file::{LoopNotes, read_loops};
+use scale_base::NoMemory;
+use stack_tables::{StackClaim, is_stack_sized};
+use std::alloc::Global;
+use std::test::Fail;
+use value_analysis::analyse;
+use value_checks::is_sized;
+use walk_checks::{Trace, WalkPlace, WalkTable, WordTrace, is_walk_shown};
+use wrapped_intervals::Arc;
+
+/// A list of numbers that ends with 0.
+const WALK: [u32; 7] = [
+    0x0002_0537, // lui a0,0x20
+    0x0005_2583, // 10004: lw a1,0(a0)
+    0x0045_0513, // addi a0,a0,4
+    0xFE05_9CE3, // bne a1,zero,10004
+    EXIT,
+    ECALL,
+    BREAKPOINT,
+];
+
+/// Its loop, which turns no more often than there are words in most of memory.
+const LOOP: &str = "version = 2\n[[loop]]\nheader = 0x00010004\nranges = [[0x00010004, 0x00010010]]\nbound = 1000000000\n";
+
+/// The first node of the loop, and the last one.
+const HEADER: u32 = START + 4;
+const LAST: u32 = START + 12;
+
+/// In which way a table is another one than the code confirms.
+#[derive(Clone, Copy)]
+enum Other {
+    None,
+    Untouched,
+    Still,
+    Farther,
+    Narrower,
+    Groundless,
+    Apart,
+    Aside,
+}
+
+/// How many times the register, and how much more.
+fn trace_of(more: u64) -> Trace {
+    Trace {
+        firsts: 1,
+        seconds: 0,
+        more: Arc::strided(more, 0, 0),
+    }
+}
+
+/// What is known of registers at an address: of a0 in the loop.
+fn row_of(alloc: Global, at: u32) -> Result<Vec<Option<Trace>>, NoMemory> {
+    let mut row = Vec::new(alloc);
+    for r in 0..32u32 {
+        let known = r == 10 && HEADER <= at && at <= LAST;
+        row.push(known.then_some(trace_of(if at == LAST { 4 } else { 0 })))?;
+    }
+    Ok(row)
+}
+
+/// The table of the walk, or another one.
+fn table_of(
+    alloc: Global,
+    graph: &CodeGraph,
+    areas: &[Arc],
+    other: Other,
+) -> Result<WalkTable, NoMemory> {
+    let mut table = WalkTable {
+        first: WalkPlace::Register(10),
+        first_factor: 1,
+        second: WalkPlace::Register(10),
+        second_factor: 0,
+        at: if matches!(other, Other::Aside) { 4 } else { 0 },
+        down: false,
+        least: if matches!(other, Other::Farther) { 5 } else { 4 },
+        spread: if matches!(other, Other::Apart) { 0xFFFF_0000 } else { 0 },
+        width: if matches!(other, Other::Narrower) { 64 } else { 0xE000_0000 },
+        ground: Vec::new(alloc),
+        body: Vec::new(alloc),
+        rows: Vec::new(alloc),
+        words: Vec::new(alloc),
+        touched: Vec::new(alloc),
+        quiet: Vec::new(alloc),
+    };
+    for area in areas {
+        if !matches!(other, Other::Groundless) {
+            table.ground.push(*area)?;
+        }
+    }
+    for k in 0..graph.node_count() {
+        let at = graph.node(k);
+        let inside = HEADER <= at && at <= LAST;
+        let touched = inside && at != HEADER && !matches!(other, Other::Untouched);
+        let still = matches!(other, Other::Still) && at == LAST;
+        table.body.push(inside)?;
+        table.rows.push(row_of(alloc, if still { HEADER } else { at })?)?;
+        table.words.push(Vec::new(alloc))?;
+        table.touched.push(touched)?;
+        table.quiet.push(false)?;
+    }
+    Ok(table)
+}
+
+/// Whether the check takes it.
+fn is_taken_of(
+    alloc: Global,
+    view: &ImageView<'_>,
+    graph: &CodeGraph,
+    notes: &LoopNotes,
+    other: Other,
+) -> Result<bool, Fail>
+    requires { IsGraphOf (text_of view.now) graph.now }
+{
+    let tables = analyse(alloc, view, graph)?;
+    if !is_sized(graph, &tables.values) || !is_stack_sized(graph, &tables.stack) {
+        return Err("there is a row for each node".into());
+    }
+    let _file = view.file();
+    let claim = StackClaim {
+        view,
+        graph,
+        table: &tables.values,
+        stack: &tables.stack,
+    };
+    let table = table_of(alloc, graph, &tables.stack.areas, other)?;
+    if notes.count() == 0 {
+        return Err("there is a loop".into());
+    }
+    Ok(is_walk_shown(&claim, notes.note(0), &table))
+}
+
+fn is_taken(alloc: Global, other: Other) -> Result<bool, Fail> {
+    let file = image_of(alloc, &WALK)?;
+    let view = view_of(alloc, &file)?;
+    let Ok(notes) = read_loops(alloc, LOOP.as_bytes(), &view) else {
+        return Err("the loop file is read".into());
+    };
+    match build_graph(alloc, &view) {
+        Ok(graph) => is_taken_of(alloc, &view, &graph, &notes, other),
+        Err(_) => Err("the code is accepted".into()),
+    }
+}
+
+/// Tables, and whether they are taken.
+static TABLES: [(&str, Other, bool); 8] = [
+    ("as it is", Other::None, true),
+    ("no access", Other::Untouched, false),
+    ("a pointer that stays", Other::Still, false),
+    ("a longer step", Other::Farther, false),
+    ("too small a width", Other::Narrower, false),
+    ("no ground", Other::Groundless, false),
+    ("steps from one area to another", Other::Apart, false),
+    ("an access behind the pointer", Other::Aside, false),
+];
+
+#[test]
+fn walks_are_taken_where_the_code_confirms_them(rt: HostRuntime) -> Result<(), Fail> {
+    for (name, other, want) in &TABLES {
+        let taken = is_taken(rt.alloc(), *other)?;
+        assert_eq!(rt; taken, *want, "{name}");
+    }
+    Ok(())
+}
