@@ -11,6 +11,7 @@ use crate::turning::find_turns;
 use crate::turns::{Turns, turns_of};
 use crate::unturned::{UNTURNED, is_turned, no_turns};
 use crate::walks::find_walk;
+use flow_graph::CodeGraph;
 use loop_forest::LoopTree;
 use scale_base::NoMemory;
 use shown_bounds::{StackCertificate, StackCounter};
@@ -29,6 +30,9 @@ const WIDE: u32 = 16;
 
 /// Where the bound is not less, it is looked at where turns access memory: an area of the stack alone has more bytes.
 const FAR: u32 = 4096;
+
+/// How many nodes and edges are looked at for walks of all loops together.
+const WALK_WORK: u64 = 50_000_000;
 
 /// No number of a register.
 const NO_MEASURE: Measure = Measure {
@@ -350,6 +354,12 @@ fn or_walked(
     }
 }
 
+/// How many loops of a graph are looked at, where so many nodes and edges are for all of them together.
+pub fn loops_within(graph: &CodeGraph, work: u64) -> usize {
+    let size = graph.node_count().saturating_add(graph.edge_count()).max(1);
+    (work / size as u64) as usize
+}
+
 /// A certificate of loop `k` of a program, of the least bound that is found; none where nothing is found, or a bound that says nothing.
 pub fn find_certificate(
     alloc: Global,
@@ -369,5 +379,8 @@ pub fn find_certificate(
         return Ok(Some(unturned(alloc, &scope)?));
     }
     let found = counted(alloc, &scope, most)?;
+    if k >= loops_within(claim.graph, WALK_WORK) {
+        return Ok(found);
+    }
     or_walked(alloc, &scope, found)
 }

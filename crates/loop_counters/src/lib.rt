@@ -20,5 +20,5 @@ mod unturned;
 mod walking;
 mod walks;
 
-pub use certificates::{LoopProgram, find_certificate};
+pub use certificates::{LoopProgram, find_certificate, loops_within};
 pub use heights::heights_of;

@@ -16,7 +16,7 @@ use crate::left::{counts_input, reads_input};
 use crate::noted::{GREATEST_BOUND, bounded_by};
 use elf_image::ImageView;
 use flow_graph::CodeGraph;
-use loop_counters::{LoopProgram, find_certificate, heights_of};
+use loop_counters::{LoopProgram, find_certificate, heights_of, loops_within};
 use loop_file::{LoopNote, LoopNotes};
 use loop_forest::LoopTree;
 use loop_tree::build_loops;
@@ -109,6 +109,9 @@ fn place_of(measure: Measure) -> Place {
 
 // What turns do to what they count in, by the factor of a counter that goes up from 0.
 fn way_of(certificate: &StackCertificate, factor: u32) -> Way {
+    if certificate.walk.is_some() {
+        return Way::Along;
+    }
     match &certificate.turns {
         Some(table) if matches!(&table.kind, TurnKind::Halves(_)) => Way::Shorter,
         _ => { if factor == 1 { Way::Up } else { Way::Down } }
@@ -260,12 +263,6 @@ fn seek(
     }
 }
 
-// How many loops of a graph are looked at.
-fn most_loops(graph: &CodeGraph) -> usize {
-    let size = graph.node_count().saturating_add(graph.edge_count()).max(1);
-    (MOST_WORK / size as u64) as usize
-}
-
 // The same, as long as it isn't too much work.
 fn seek_or_stop(
     alloc: Global,
@@ -278,7 +275,7 @@ fn seek_or_stop(
     ensures found { IfOk result (λ s. IsFoundBy sources.now.most claim.now s.note) }
     ensures least { IfOk result (λ s. IsLeastFoundBy claim.now s.note) }
 {
-    if k >= most_loops(claim.graph) {
+    if k >= loops_within(claim.graph, MOST_WORK) {
         return left_open(alloc, note, Reason::TooLarge, false);
     }
     seek(alloc, claim, sources, note, k)

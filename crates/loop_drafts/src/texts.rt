@@ -106,6 +106,10 @@ fn push_way(text: &mut String, counter: Counter) -> Result<(), AllocError> {
             text,
             " loses {step} or more bits each turn, and has at most {bits} at the header"
         ),
+        Way::Along => write!(
+            text,
+            " goes {step} or more bytes along memory each turn, in an area of at most {width} bytes"
+        ),
     }
 }
 

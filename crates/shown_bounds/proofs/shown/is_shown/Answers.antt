@@ -1,8 +1,8 @@
 use Rattle.std.proofs.Common.{inl, inr}
 use Rattle.shown_bounds.proofs.shown.is_shown.Goals as goal
 
-pub returns-in-Some-any : goal.returns-in-Some-any
-returns-in-Some-any c so notes k same = inr (inr (c.is_walk_shown.ensures so notes k same))
+pub returns-in-Some-default : goal.returns-in-Some-default
+returns-in-Some-default c so notes k same = inr (inr (c.is_walk_shown.ensures so notes k same))
 
 pub returns-in-None-Some : goal.returns-in-None-Some
 returns-in-None-Some c so notes k same = inr (inl (c.is_turn_shown.ensures so notes k same))
