@@ -28,9 +28,6 @@ const NO_BOUND: u32 = 0x8000_0000;
 /// Where a counter has such a bound, it is looked at what else turns do: that of a pointer may be the size of its segment.
 const WIDE: u32 = 16;
 
-/// Where the bound is not less, it is looked at where turns access memory: an area of the stack alone has more bytes.
-const FAR: u32 = 4096;
-
 /// How many nodes and edges are looked at for walks of all loops together.
 const WALK_WORK: u64 = 50_000_000;
 
@@ -276,14 +273,6 @@ fn counted(
     }
 }
 
-// The bound of a certificate.
-fn bound_of(certificate: &StackCertificate) -> u32 {
-    certificate
-        .width
-        .checked_div(certificate.least)
-        .unwrap_or(u32::MAX)
-}
-
 // What is added to a register in a pointer.
 fn other_of(table: &WalkTable, factor: u32) -> (u8, u32) {
     match table.second {
@@ -333,24 +322,11 @@ fn walked(alloc: Global, table: WalkTable) -> StackCertificate {
     }
 }
 
-// The certificate that was found, or one by a walk where that has a lesser bound.
-fn or_walked(
-    alloc: Global,
-    scope: &Scope<'_>,
-    found: Option<StackCertificate>,
-) -> Result<Option<StackCertificate>, NoMemory> {
-    let bound = match &found {
-        Some(certificate) => bound_of(certificate),
-        None => NO_BOUND,
-    };
-    if bound < FAR {
-        return Ok(found);
-    }
+// A certificate by a walk, where one is found.
+fn by_walk(alloc: Global, scope: &Scope<'_>) -> Result<Option<StackCertificate>, NoMemory> {
     match find_walk(alloc, scope)? {
-        Some(table) if table.width.checked_div(table.least).unwrap_or(bound) < bound => {
-            Ok(Some(walked(alloc, table)))
-        }
-        _ => Ok(found),
+        Some(table) => Ok(Some(walked(alloc, table))),
+        None => Ok(None),
     }
 }
 
@@ -360,7 +336,7 @@ pub fn loops_within(graph: &CodeGraph, work: u64) -> usize {
     (work / size as u64) as usize
 }
 
-/// A certificate of loop `k` of a program, of the least bound that is found; none where nothing is found, or a bound that says nothing.
+/// A certificate of loop `k` of a program, of the least bound that is found; where there is none, or one that says nothing, one by a walk.
 pub fn find_certificate(
     alloc: Global,
     claim: &StackClaim<'_>,
@@ -379,8 +355,8 @@ pub fn find_certificate(
         return Ok(Some(unturned(alloc, &scope)?));
     }
     let found = counted(alloc, &scope, most)?;
-    if k >= loops_within(claim.graph, WALK_WORK) {
+    if found.is_some() || k >= loops_within(claim.graph, WALK_WORK) {
         return Ok(found);
     }
-    or_walked(alloc, &scope, found)
+    by_walk(alloc, &scope)
 }

@@ -33,6 +33,9 @@ use wrapped_intervals::Measure;
 /// So many loops times nodes and edges are looked at.
 const MOST_WORK: u64 = 400_000_000;
 
+/// Such a bound of a walk through memory is told, and left to whoever knows a lower one: it is the size of the stack, and no deadline is for that.
+const FAR: u32 = 16_384;
+
 /// What is known of each loop, the note that it is to have in the file, and whether returns go back.
 #[derive(Drop)]
 pub struct Bounds {
@@ -173,6 +176,10 @@ fn confirmed(
     let bounded = bounded_by(alloc, note, bound, counted)?;
     if !is_shown(claim, &bounded, certificate, most) {
         return left_open(alloc, note, Reason::NotConfirmed, counted);
+    }
+    if certificate.walk.is_some() && bound >= FAR {
+        let reason = Reason::FarWalk(certificate.least, certificate.width);
+        return left_open(alloc, note, reason, counted);
     }
     let turning = with_least(alloc, claim, bounded, certificate)?;
     Ok(Sought {

@@ -94,6 +94,8 @@ pub enum Reason {
     ReadsInput,
     /// The span of its counter is too wide for a bound.
     TooWide,
+    /// It walks through memory, by so many bytes or more each turn, in an area of at most so many, which bounds it no lower than that.
+    FarWalk(u32, u32),
     /// The code doesn't confirm the counter that is found.
     NotConfirmed,
     /// Some code that turns is entered at several places, so that no loops are taken.
@@ -119,6 +121,13 @@ impl fmt::Display for Reason {
                 "it reads the input, and may have one with --input-bytes"
             ),
             Reason::TooWide => write!(f, "the limits of its counter are too far apart"),
+            Reason::FarWalk(step, width) => {
+                let most = width.checked_div(*step).unwrap_or(u32::MAX);
+                write!(
+                    f,
+                    "each turn goes {step} or more bytes along memory, in an area of at most {width}, so all that is proved is {most}"
+                )
+            }
             Reason::NotConfirmed => write!(f, "the code doesn't confirm its counter"),
             Reason::EnteredAside => {
                 write!(
