@@ -29,10 +29,12 @@ const WALK: [u32; 7] = [
 ];
 
 /// Its loop, which turns no more often than there are words in most of memory.
-const LOOP: &str = "version = 2\n[[loop]]\nheader = 0x00010004\nranges = [[0x00010004, 0x00010010]]\nbound = 1000000000\n";
+const LOOP: &str =
+    "version = 2\n[[loop]]\nheader = 0x00010004\nranges = [[0x00010004, 0x00010010]]\nbound = 1000000000\n";
 
 /// The first node of the loop, and the last one.
 const HEADER: u32 = START + 4;
+
 const LAST: u32 = START + 12;
 
 /// In which way a table is another one than the code confirms.
@@ -81,9 +83,21 @@ fn table_of(
         second_factor: 0,
         at: if matches!(other, Other::Aside) { 4 } else { 0 },
         down: false,
-        least: if matches!(other, Other::Farther) { 5 } else { 4 },
-        spread: if matches!(other, Other::Apart) { 0xFFFF_0000 } else { 0 },
-        width: if matches!(other, Other::Narrower) { 64 } else { 0xE000_0000 },
+        least: if matches!(other, Other::Farther) {
+            5
+        } else {
+            4
+        },
+        spread: if matches!(other, Other::Apart) {
+            0xFFFF_0000
+        } else {
+            0
+        },
+        width: if matches!(other, Other::Narrower) {
+            64
+        } else {
+            0xE000_0000
+        },
         ground: Vec::new(alloc),
         body: Vec::new(alloc),
         rows: Vec::new(alloc),
@@ -102,7 +116,9 @@ fn table_of(
         let touched = inside && at != HEADER && !matches!(other, Other::Untouched);
         let still = matches!(other, Other::Still) && at == LAST;
         table.body.push(inside)?;
-        table.rows.push(row_of(alloc, if still { HEADER } else { at })?)?;
+        table
+            .rows
+            .push(row_of(alloc, if still { HEADER } else { at })?)?;
         table.words.push(Vec::new(alloc))?;
         table.touched.push(touched)?;
         table.quiet.push(false)?;
