@@ -1,9 +1,9 @@
 -- Walks: a loop each turn of which loads from, or stores to, the address where a pointer points, and moves the pointer on by less than any
 -- two areas are apart. What an access goes to is in an area, or the run goes no further (RISC-V Unprivileged ISA, "Load and Store
 -- Instructions": an access fault). So the pointer stays in one area, whatever it was at first, and the loop turns no more often than the
--- longest area has steps. Where the interval of the address is known, only what the areas have in common with it counts. The pointer is a sum of multiples of two numbers, as a base and an index, each in a register or in a word of the
--- stack. The code has to confirm edge by edge how values depend on both. Induction variables: Aho, Lam, Sethi and Ullman, Compilers,
--- section 9.1.
+-- longest area has steps. Where the interval of the address is known, only what the areas have in common with it counts. The pointer is a
+-- sum of multiples of two numbers, as a base and an index, each in a register or in a word of the stack. The code has to confirm edge by
+-- edge how values depend on both. Induction variables: Aho, Lam, Sethi and Ullman, Compilers, section 9.1.
 use Rattle.std.specs.Prelude.{◌≡◌, ◌≢◌, ℕ, ℤ, ◌+◌, ◌*◌, ◌/◌, ◌%◌, ◌^◌, ◌<◌, ◌≤◌, ◌⊎◌, ◌&&◌, nat_lt, Bool, true, false, Option, Some, None, if◌then◌else◌}
 use Rattle.scale_base.specs.declared.instruction.ImmOp.TheVariants.{Addi, Slli}
 use Rattle.scale_base.specs.declared.instruction.RegOp.TheVariants.{Add}
