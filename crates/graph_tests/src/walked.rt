@@ -12,7 +12,7 @@ use scale_base::NoMemory;
 use stack_tables::{StackClaim, is_stack_sized};
 use std::alloc::Global;
 use std::test::Fail;
-use value_analysis::analyse;
+use value_analysis::{Tables, analyse};
 use value_checks::is_sized;
 use walk_checks::{Trace, WalkPlace, WalkTable, WordTrace, is_walk_shown};
 use wrapped_intervals::Arc;
@@ -48,6 +48,16 @@ enum Other {
     Groundless,
     Apart,
     Aside,
+    Placed,
+    Misplaced,
+    PlacedGroundless,
+}
+
+impl Other {
+    /// Whether the ground is left out.
+    fn is_groundless(&self) -> bool {
+        matches!(self, Other::Groundless | Other::PlacedGroundless)
+    }
 }
 
 /// How many times the register, and how much more.
@@ -69,11 +79,26 @@ fn row_of(alloc: Global, at: u32) -> Result<Vec<Option<Trace>>, NoMemory> {
     Ok(row)
 }
 
+/// The interval of a0 where it is accessed.
+fn address_of(graph: &CodeGraph, tables: &Tables) -> Option<Arc> {
+    let row = tables.values.rows.get(graph.find(HEADER)?)?;
+    row.get(10).copied().flatten()
+}
+
+/// The place of the walk: none, that of the address, or another one.
+fn place_of(graph: &CodeGraph, tables: &Tables, other: Other) -> Option<Arc> {
+    match other {
+        Other::Placed | Other::PlacedGroundless => address_of(graph, tables),
+        Other::Misplaced => Some(Arc::of(0, 15)),
+        _ => None,
+    }
+}
+
 /// The table of the walk, or another one.
 fn table_of(
     alloc: Global,
     graph: &CodeGraph,
-    areas: &[Arc],
+    tables: &Tables,
     other: Other,
 ) -> Result<WalkTable, NoMemory> {
     let mut table = WalkTable {
@@ -98,6 +123,7 @@ fn table_of(
         } else {
             0xE000_0000
         },
+        place: place_of(graph, tables, other),
         ground: Vec::new(alloc),
         body: Vec::new(alloc),
         rows: Vec::new(alloc),
@@ -105,8 +131,8 @@ fn table_of(
         touched: Vec::new(alloc),
         quiet: Vec::new(alloc),
     };
-    for area in areas {
-        if !matches!(other, Other::Groundless) {
+    for area in &tables.stack.areas {
+        if !other.is_groundless() {
             table.ground.push(*area)?;
         }
     }
@@ -147,7 +173,7 @@ fn is_taken_of(
         table: &tables.values,
         stack: &tables.stack,
     };
-    let table = table_of(alloc, graph, &tables.stack.areas, other)?;
+    let table = table_of(alloc, graph, &tables, other)?;
     if notes.count() == 0 {
         return Err("there is a loop".into());
     }
@@ -167,7 +193,7 @@ fn is_taken(alloc: Global, other: Other) -> Result<bool, Fail> {
 }
 
 /// Tables, and whether they are taken.
-static TABLES: [(&str, Other, bool); 8] = [
+static TABLES: [(&str, Other, bool); 11] = [
     ("as it is", Other::None, true),
     ("no access", Other::Untouched, false),
     ("a pointer that stays", Other::Still, false),
@@ -176,6 +202,9 @@ static TABLES: [(&str, Other, bool); 8] = [
     ("no ground", Other::Groundless, false),
     ("steps from one area to another", Other::Apart, false),
     ("an access behind the pointer", Other::Aside, false),
+    ("the interval of the address", Other::Placed, true),
+    ("another interval", Other::Misplaced, false),
+    ("no ground in the interval", Other::PlacedGroundless, false),
 ];
 
 #[test]

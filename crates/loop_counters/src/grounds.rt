@@ -1,4 +1,4 @@
-//! The ground of a walk: intervals that hold the areas, farther from each other than a step.
+//! The ground of a walk: intervals that hold what is in an area and in the walk's place, farther from each other than a step.
 
 ghost use Rattle.std.specs.Prelude.{◌<◌, ◌≤◌};
 
@@ -12,9 +12,10 @@ const WORDS: u64 = 4_294_967_296;
 /// How many intervals a ground has at most.
 const MOST_INTERVALS: usize = 16;
 
-/// The ground: its intervals, and the number that the longest one has more than its first.
+/// The ground of a place: its intervals, and the number that the longest one has more than its first.
 #[derive(Drop)]
 pub struct Ground {
+    pub place: Option<Arc>,
     pub intervals: Vec<Arc>,
     pub longest: u32,
 }
@@ -26,17 +27,37 @@ fn ends_of(arc: &Arc) -> Option<(u32, u32)> {
     Some((low, low.checked_add(more)?))
 }
 
-// The ends of all areas, in order. None where one of them wraps.
-fn sorted_ends(alloc: Global, areas: &[Arc]) -> Result<Option<Vec<(u32, u32)>>, NoMemory> {
+// What both have in common, by their ends.
+fn common(one: (u32, u32), other: (u32, u32)) -> Option<(u32, u32)> {
+    let (low, last) = (one.0.max(other.0), one.1.min(other.1));
+    if low <= last { Some((low, last)) } else { None }
+}
+
+// The ends of what each area has in common with a place, in order. None where one of them wraps.
+fn sorted_ends(
+    alloc: Global,
+    areas: &[Arc],
+    place: (u32, u32),
+) -> Result<Option<Vec<(u32, u32)>>, NoMemory> {
     let mut all = Vec::new(alloc);
     for area in areas {
-        match ends_of(area) {
-            Some(ends) => all.push(ends)?,
-            None => return Ok(None),
+        let Some(ends) = ends_of(area) else {
+            return Ok(None);
+        };
+        if let Some(ends) = common(ends, place) {
+            all.push(ends)?;
         }
     }
     all.sort()?;
     Ok(Some(all))
+}
+
+// The ends of a place, which is all words where none is known.
+fn ends_of_place(place: &Option<Arc>) -> Option<(u32, u32)> {
+    match place {
+        Some(place) => ends_of(place),
+        None => Some((0, u32::MAX)),
+    }
 }
 
 impl Ground {
@@ -59,15 +80,24 @@ fn is_apart(last: u32, next: u32, gap: u32) -> bool {
     u64::from(next) > u64::from(last) + u64::from(gap)
 }
 
-/// The ground of areas for steps of so many bytes at most.
-pub fn ground_of(alloc: Global, areas: &[Arc], gap: u32) -> Result<Option<Ground>, NoMemory> {
-    let Some(all) = sorted_ends(alloc, areas)? else {
+/// The ground of areas in a place, for steps of so many bytes at most.
+pub fn ground_of(
+    alloc: Global,
+    areas: &[Arc],
+    place: Option<Arc>,
+    gap: u32,
+) -> Result<Option<Ground>, NoMemory> {
+    let Some(ends) = ends_of_place(&place) else {
+        return Ok(None);
+    };
+    let Some(all) = sorted_ends(alloc, areas, ends)? else {
         return Ok(None);
     };
     let Some(begun) = all.first().copied() else {
         return Ok(None);
     };
     let mut ground = Ground {
+        place,
         intervals: Vec::new(alloc),
         longest: 0,
     };

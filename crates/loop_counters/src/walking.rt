@@ -10,7 +10,7 @@ use crate::traced::{Value, joined, scaled, sum};
 use crate::turning::Numbers;
 use scale_base::{ImmOp, Instr, NoMemory, RegOp};
 use std::alloc::Global;
-use wrapped_intervals::keeps;
+use wrapped_intervals::{Arc, keeps};
 
 /// How many words of the stack are looked at.
 pub const MOST_WORDS: usize = 16;
@@ -180,6 +180,12 @@ pub fn accessed(scope: &Scope<'_>, known: &Standing, k: usize) -> Option<Value> 
     traced(by_number(scope, known, k, r, by))
 }
 
+/// The interval of the addresses that it accesses, by that of the register.
+pub fn address_of(scope: &Scope<'_>, k: usize) -> Option<Value> {
+    let (r, by) = access_of(scope.instr(k))?;
+    Some(Value::of_arc(scope.arc(k, r))?.moved(by))
+}
+
 // What a loaded word holds.
 fn loaded(words: &Words, known: &Standing, number: u32) -> Option<Value> {
     for j in 0..words.numbers.len() {
@@ -264,6 +270,31 @@ impl<'a> Look<'a> {
             Some(aim) => accessed(self.scope, known, k) == Some(aim),
             None => false,
         }
+    }
+
+    // Whether a node makes the first access there of a turn.
+    fn is_first(&self, walk: &Walk, k: usize) -> bool {
+        match walk.at(self.numbers.of(k)) {
+            Some(known) => self.scope.is_live(k) && !known.touched && self.is_aimed(&known, k),
+            None => false,
+        }
+    }
+
+    /// An interval that holds the addresses of the first accesses of all turns, where they are known and it doesn't wrap.
+    pub fn reach(&self, walk: &Walk) -> Option<Arc> {
+        let mut all: Option<Option<Value>> = None;
+        for k in self.scope.nodes {
+            if self.is_first(walk, *k) {
+                let address = address_of(self.scope, *k);
+                all = Some(match all {
+                    Some(known) => joined(known, address),
+                    None => address,
+                });
+            }
+        }
+        let reach = all??;
+        reach.low.checked_add(reach.more)?;
+        Some(Arc::of(u64::from(reach.low), u64::from(reach.more)))
     }
 
     // What is known behind the instruction of a node.

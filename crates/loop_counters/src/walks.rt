@@ -149,7 +149,8 @@ fn walk_by(alloc: Global, look: &Look<'_>, aim: Value) -> Result<Option<Found>, 
     let Some(way) = move_of(&end, &aim) else {
         return Ok(None);
     };
-    let Some(ground) = ground_of(alloc, look.scope.areas(), way.most())? else {
+    let place = aimed.reach(&walk);
+    let Some(ground) = ground_of(alloc, look.scope.areas(), place, way.most())? else {
         return Ok(None);
     };
     match ground.longest.checked_add(way.most()) {
@@ -335,6 +336,11 @@ fn table_of(alloc: Global, look: &Look<'_>, found: Found) -> Result<WalkTable, N
         ground,
         width,
     } = found;
+    let Ground {
+        place,
+        intervals,
+        longest: _,
+    } = ground;
     let second = if aim.second.times > 0 {
         aim.second.place
     } else {
@@ -350,7 +356,8 @@ fn table_of(alloc: Global, look: &Look<'_>, found: Found) -> Result<WalkTable, N
         least: way.least,
         spread: way.spread,
         width,
-        ground: ground.intervals,
+        place,
+        ground: intervals,
         body: look.scope.body.clone()?,
         rows,
         words,

@@ -1,10 +1,11 @@
 -- A pointer that moves on by less than intervals are apart stays in its interval.
-use Rattle.std.proofs.Common.{◌≡◌, ℕ, ◌+◌, ◌-◌, ◌*◌, ◌<◌, ◌≤◌, ◌%◌, ◌^◌, ⊎_elim, ◌⊎◌, Bool, true, false, sym, ap, ◌∙◌, subst, arith, Option, Some}
+use Rattle.std.proofs.Common.{◌≡◌, ℕ, ◌+◌, ◌-◌, ◌*◌, ◌<◌, ◌≤◌, ◌%◌, ◌^◌, ⊎_elim, ◌⊎◌, Bool, true, false, sym, ap, ◌∙◌, subst, arith, Option, Some, None}
 use Rattle.std.proofs.Math.Nat.{add-mul}
-use Rattle.bound_laws.specs.Values.{Arc, IsIn, ahead}
-use Rattle.bound_laws.proofs.Laws.{in_covers}
+use Rattle.bound_laws.specs.Values.{Arc, IsIn, IsHeld, ahead, Covers, meet_of}
+use Rattle.bound_laws.proofs.Laws.{in_covers, meet_of_in}
+use Rattle.stack_laws.specs.Areas.{AreDisjoint}
 use Rattle.stack_laws.proofs.Laws.{disjoint}
-use Rattle.walk_areas.specs.Walking.{WalkCertificate, IsBeyond, IsGround}
+use Rattle.walk_areas.specs.Walking.{WalkCertificate, IsBeyond, IsOnGround, IsGround}
 
 -- so much of the interval is behind the address, by the way of the walk
 abbrev pub IsPast : Bool → Arc → (at n : ℕ) → Type 0
@@ -33,6 +34,23 @@ no_way x y a b s gap inside there e le less beyond =
     let m : ahead x.low b ≡ ahead x.low a + s = moved_ahead x.low x.more a b s gap inside.start inside.word inside.near e le less in
     let n : ahead x.low b ≤ x.more + gap = (let near = inside.near in omega arith) in
     disjoint x.low (x.more + gap) y.low y.more b inside.start there.start there.word n there.near beyond.0 beyond.1
+
+-- an address in the place and in an area is in an interval of the ground
+record IsGrounded (ground : ℕ → Option Arc) (at : ℕ) : Type 0 where
+  number : ℕ
+  interval : Arc
+  interval_is : ground number ≡ Some interval
+  inside : IsIn interval at
+
+in_neither : (place : Option Arc) (x : Arc) (at : ℕ) → IsHeld place at → IsIn x at → AreDisjoint place x → ⊥
+in_neither None x at a b h = h
+in_neither (Some i) x at a b h = disjoint i.low i.more x.low x.more at a.start b.start a.word a.near b.near h.0 h.1
+
+grounded : (ground : ℕ → Option Arc) (place : Option Arc) (x : Arc) (at : ℕ) → IsOnGround ground place x → IsHeld place at → IsIn x at → IsGrounded ground at
+grounded ground place x at on here inside = ⊎_elim
+    (λ (none : AreDisjoint place x). absurd (in_neither place x at here inside none))
+    (λ (q : (j : ℕ) × (y : Arc) × (ground j ≡ Some y) × Covers (Some y) (meet_of place (Some x))).
+    record { number = q.0; interval = q.1; interval_is = q.2; inside = in_covers (meet_of place (Some x)) (Some q.1) at (meet_of_in place (Some x) at here inside) q.3 }) on
 
 some_same : (x y : Arc) → Some x ≡ Some y → x ≡ y
 some_same x y e = cc
@@ -78,22 +96,25 @@ module _ (areas : ℕ → Option Arc) (c : WalkCertificate) (ground : IsGround a
   IsGood count now = (count ≡ 0) ⊎ IsStepped count now
 
   -- an access shows where that is
-  pub shown : (count now : ℕ) → IsGood count now → (k : ℕ) (x : Arc) → areas k ≡ Some x → IsIn x now → IsHere c now (count * c.least)
-  shown count now good k x e inside = ⊎_elim
+  pub shown : (count now : ℕ) → IsGood count now → IsHeld c.place now → (k : ℕ) (x : Arc) → areas k ≡ Some x → IsIn x now → IsHere c now (count * c.least)
+  shown count now good here k x e inside = ⊎_elim
       (λ (none : count ≡ 0). record { number = j; interval = y; interval_is = f; inside = there; past = first c.down none })
       (λ (s : IsStepped count now). record { number = j; interval = y; interval_is = f; inside = there; past = on s }) good
     where
+      on_ground : IsGrounded c.ground now
+      on_ground = grounded c.ground c.place x now (ground.holds k x e) here inside
+
       j : ℕ
-      j = (ground.holds k x e).0
+      j = on_ground.number
 
       y : Arc
-      y = (ground.holds k x e).1
+      y = on_ground.interval
 
       f : c.ground j ≡ Some y
-      f = (ground.holds k x e).2
+      f = on_ground.interval_is
 
       there : IsIn y now
-      there = in_covers (Some x) (Some y) now inside (ground.holds k x e).3
+      there = on_ground.inside
 
       first : (down : Bool) → count ≡ 0 → IsPast down y now (count * c.least)
       first true none = subst (λ n. ahead y.low now + n * c.least ≤ y.more) (sym none) (let near : ahead y.low now ≤ y.more = there.near in let z : 0 * c.least ≡ 0 = omega arith in omega arith)

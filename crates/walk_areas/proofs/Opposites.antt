@@ -1,6 +1,6 @@
 -- What is as much below 0 as the numbers of an interval are above it.
 use Rattle.std.proofs.Common.{◌≡◌, ℕ, ◌+◌, ◌-◌, ◌*◌, ◌/◌, ◌<◌, ◌≤◌, ◌%◌, ◌^◌, true, sym, ap, ◌∙◌, subst, arith}
-use Rattle.std.specs.Prelude.{◌==◌, ◌&&◌, nat_lt}
+use Rattle.std.specs.Prelude.{◌==◌, nat_lt}
 use Rattle.std.proofs.lemmas.Bool.{cond_both, and_parts, ltb-true, eqb-true}
 use Rattle.std.proofs.Math.Nat.{mul-sub, div-add-mod}
 use Rattle.scale_base.specs.Arith.{plus}

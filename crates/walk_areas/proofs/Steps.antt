@@ -12,8 +12,8 @@ use Rattle.scale_base.specs.Reading.{instr_of}
 use Rattle.scale_base.specs.Arith.{plus, unsigned}
 use Rattle.scale_base.specs.State.{Setting, State, reg, word_at}
 use Rattle.scale_base.specs.Step.{step}
-use Rattle.bound_laws.specs.Values.{IsIn, held, strided, IsRegister, Values}
-use Rattle.bound_laws.proofs.Laws.{held_of, only_one, steps_leave}
+use Rattle.bound_laws.specs.Values.{IsIn, IsHeld, held, strided, sum_with, IsRegister, Values}
+use Rattle.bound_laws.proofs.Laws.{held_of, in_covers, only_one, steps_leave, sum_with_in}
 use Rattle.stack_laws.specs.Areas.{IsLaidOut}
 use Rattle.stack_laws.specs.Stacks.{Stacks, View, view_of, AreTold}
 use Rattle.stack_laws.proofs.Laws.{gets, puts, misses, usable}
@@ -102,13 +102,19 @@ module _ (env : Setting) (keyless : env.layout.keyed ≡ None) (v : Values) (w :
   small_sum : (a b : ℕ) → plus a b < 2 ^ 32
   small_sum a b = omega arith
 
+  -- and in the place
+  is_placed : (q : IsAimed v c s.pc i) → IsHeld c.place (plus (reg s.regs q.register) q.more)
+  is_placed q =
+      let known : IsHeld (held (v.at s.pc) q.register) (reg s.regs q.register) = held_of (v.at s.pc) s.regs zero_is size told.registers.each q.register in
+      in_covers (sum_with (held (v.at s.pc) q.register) q.more) c.place (plus (reg s.regs q.register) q.more) (sum_with_in (held (v.at s.pc) q.register) q.more (reg s.regs q.register) known) q.placed
+
   touched_by : IsLaidOut env.layout w.areas → IsAimed v c s.pc i → IsHere c (aimed c facts.first facts.second) (count * c.least)
   touched_by laid q =
       let n : ℕ = plus (reg s.regs q.register) q.more in
       let traced : Has (aim c) n = wider (aim c) (moved_by_number (operand v c s.pc q.register) q.more) n (sum_in (operand v c s.pc q.register) facts.first facts.second (reg s.regs q.register) q.more (finds q.register)) q.aims in
       let area = laid.within n (usable env keyless s i here x went q.register q.more q.access) in
       let e : n ≡ aimed c facts.first facts.second = points n (small_sum (reg s.regs q.register) q.more) traced in
-      shown w.areas c ground count (aimed c facts.first facts.second) facts.good area.0 area.1 area.2 (subst (IsIn area.1) e area.3)
+      shown w.areas c ground count (aimed c facts.first facts.second) facts.good (subst (IsHeld c.place) e (is_placed q)) area.0 area.1 area.2 (subst (IsIn area.1) e area.3)
 
   pub touches : IsLaidOut env.layout w.areas → IsTouched v c s.pc i → IsHere c (aimed c facts.first facts.second) (count * c.least)
   touches laid q = ⊎_elim (λ (on : c.touched s.pc ≡ true). facts.touched on) (λ (a : IsAimed v c s.pc i). touched_by laid a) q

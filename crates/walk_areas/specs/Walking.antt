@@ -1,9 +1,9 @@
 -- Walks: a loop each turn of which loads from, or stores to, the address where a pointer points, and moves the pointer on by less than any
 -- two areas are apart. What an access goes to is in an area, or the run goes no further (RISC-V Unprivileged ISA, "Load and Store
 -- Instructions": an access fault). So the pointer stays in one area, whatever it was at first, and the loop turns no more often than the
--- longest area has steps. The pointer is a sum of multiples of two numbers, as a base and an index, each in a register or in a word of the
--- stack. The code has to confirm edge by edge how values depend on both. Induction variables: Aho, Lam, Sethi and Ullman, Compilers,
--- section 9.1.
+-- longest area has steps. Where the interval of the address is known, only what the areas have in common with it counts. The pointer is a
+-- sum of multiples of two numbers, as a base and an index, each in a register or in a word of the stack. The code has to confirm edge by
+-- edge how values depend on both. Induction variables: Aho, Lam, Sethi and Ullman, Compilers, section 9.1.
 use Rattle.std.specs.Prelude.{◌≡◌, ◌≢◌, ℕ, ℤ, ◌+◌, ◌*◌, ◌/◌, ◌%◌, ◌^◌, ◌<◌, ◌≤◌, ◌⊎◌, ◌&&◌, nat_lt, Bool, true, false, Option, Some, None, if◌then◌else◌}
 use Rattle.scale_base.specs.declared.instruction.ImmOp.TheVariants.{Addi, Slli}
 use Rattle.scale_base.specs.declared.instruction.RegOp.TheVariants.{Add}
@@ -15,8 +15,8 @@ use Rattle.cost_theory.specs.Graph.{Graph, Loops}
 use Rattle.code_text.specs.Text.{Text, instr_at}
 use Rattle.bound_laws.specs.Registers.{keeps}
 use Rattle.bound_laws.specs.Turning.{Leads, Calls}
-use Rattle.bound_laws.specs.Values.{Arc, IsHeld, ahead, arc, strided, sum_of, sum_with, scaled, negated_of, held, Covers, said, IsImpossible, IsRegister, Values, Steps}
-use Rattle.stack_laws.specs.Areas.{IsAccess}
+use Rattle.bound_laws.specs.Values.{Arc, IsHeld, ahead, arc, strided, sum_of, sum_with, scaled, negated_of, held, Covers, meet_of, said, IsImpossible, IsRegister, Values, Steps}
+use Rattle.stack_laws.specs.Areas.{IsAccess, AreDisjoint}
 use Rattle.stack_laws.specs.Stacks.{Stacks, View, IsLoadedTo, IsStoredFrom, IsMissed, IsRestored, IsSafe}
 
 -- ---- values by two numbers
@@ -92,7 +92,9 @@ pub record WalkCertificate : Type 0 where
   pub least : ℕ
   pub spread : ℕ
   pub width : ℕ
-  -- intervals of addresses, by number, that hold the areas
+  -- the interval of the addresses that are accessed, where one is known
+  pub place : Option Arc
+  -- intervals of addresses, by number, that hold what is in an area and in the place
   pub ground : ℕ → Option Arc
   -- the code of the loop, with its header
   pub body : ℕ → Bool
@@ -146,6 +148,8 @@ pub record IsAimed (v : Values) (c : WalkCertificate) (a : ℕ) (i : Instr) : Ty
   pub more : ℕ
   pub access : IsAccess i register more
   pub aims : IsWider (aim c) (moved_by_number (operand v c a register) more)
+  -- by the register's interval the address is in the place
+  pub placed : Covers c.place (sum_with (held (v.at a) register) more)
 
 -- so it did, or an instruction before it
 abbrev pub IsTouched : Values → WalkCertificate → ℕ → Instr → Type 0
@@ -201,9 +205,14 @@ pub record IsTurnBack (t : Text) (v : Values) (w : Stacks) (c : WalkCertificate)
 abbrev pub IsBeyond : Arc → Arc → (gap : ℕ) → Type 0
 IsBeyond x y gap = (x.more + gap < ahead x.low y.low) × (ahead x.low y.low + y.more < 2 ^ 32)
 
--- The ground holds each area, and no step leads from one of its intervals to another one, or round to the same.
+-- The area has nothing in common with the place, or an interval of the ground holds what it has.
+abbrev pub IsOnGround : (ground : ℕ → Option Arc) → (place : Option Arc) → (area : Arc) → Type 0
+IsOnGround ground place area = AreDisjoint place area ⊎
+    ((j : ℕ) × (y : Arc) × (ground j ≡ Some y) × Covers (Some y) (meet_of place (Some area)))
+
+-- The ground holds what is in an area and in the place, and no step leads from one of its intervals to another one, or round to the same.
 pub record IsGround (areas : ℕ → Option Arc) (c : WalkCertificate) : Type 0 where
-  pub holds : (k : ℕ) (x : Arc) → areas k ≡ Some x → (j : ℕ) × (y : Arc) × (c.ground j ≡ Some y) × Covers (Some y) (Some x)
+  pub holds : (k : ℕ) (x : Arc) → areas k ≡ Some x → IsOnGround c.ground c.place x
   pub short : (k : ℕ) (x : Arc) → c.ground k ≡ Some x → (x.more + c.least ≤ c.width) × (x.more + (c.least + c.spread) < 2 ^ 32)
   pub apart : (k j : ℕ) (x y : Arc) → c.ground k ≡ Some x → c.ground j ≡ Some y → (k ≡ j) ⊎ IsBeyond x y (c.least + c.spread)
 

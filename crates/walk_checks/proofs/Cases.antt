@@ -1,5 +1,5 @@
 -- What a table says of itself, and what is to show, case by case.
-use Rattle.std.proofs.Common.{◌≡◌, ℕ, ℤ, zero, suc, get_or, ◌<◌, ◌+◌, ◌*◌, ◌≤◌, ◌%◌, ◌^◌, ◌⊎◌, inl, inr, ⊎_elim, Bool, true, false, List, [], ◌∷◌, length, Option, Some, None, refl, sym, ap, ◌∙◌, subst, arith}
+use Rattle.std.proofs.Common.{◌≡◌, ℕ, ℤ, zero, suc, get_or, ◌<◌, ◌+◌, ◌≤◌, ◌%◌, ◌^◌, ◌⊎◌, inr, ⊎_elim, true, List, [], ◌∷◌, length, Option, Some, None, refl, sym, ap, ◌∙◌, subst, arith}
 use Rattle.std.specs.Prelude.{◌==◌, option_map, slice_get, IfSome}
 use Rattle.std.specs.List.{All, find}
 use Rattle.std.proofs.lemmas.Bool.{cond_both, eqb-true}
@@ -11,7 +11,7 @@ use Rattle.scale_base.specs.declared.instruction.Instr.{Instr}
 use Rattle.scale_base.specs.declared.instruction.Instr.TheVariants.{Imm, Reg}
 use Rattle.scale_base.specs.Arith.{unsigned}
 use Rattle.bound_laws.specs.Registers.{keeps}
-use Rattle.bound_laws.specs.Values.{Arc, IsRegister, Values}
+use Rattle.bound_laws.specs.Values.{Arc, Covers, held, sum_with, IsRegister, Values}
 use Rattle.code_text.specs.Text.{Text}
 use Rattle.flow_graph.specs.FlowGraph.{graph}
 use Rattle.flow_graph.proofs.Laws.{less_same_more, some_is}
@@ -20,13 +20,13 @@ use Rattle.stack_tables.specs.declared.claims.StackClaim.{StackClaim}
 use Rattle.value_checks.proofs.Laws.{once}
 use Rattle.stack_tables.specs.Tables.{address, stacks_in, text_in, values_in, IsStackClaim}
 use Rattle.stack_tables.proofs.Laws.{address_is}
-use Rattle.walk_areas.specs.Walking.{Place, Trace, WalkCertificate, aim, moved_by_number, multiplied, operand, pointer, sum_of_both, traced, IsAimed, IsBegun, IsBeyond, IsGround, IsMoved, IsPlaceBack, IsPlaceOver, IsRowOver, IsTurnBack, IsTurnOver, IsTouched, IsWider}
+use Rattle.walk_areas.specs.Walking.{Place, Trace, WalkCertificate, aim, moved_by_number, multiplied, operand, pointer, sum_of_both, IsBegun, IsBeyond, IsGround, IsMoved, IsPlaceBack, IsPlaceOver, IsTurnBack, IsTurnOver, IsTouched, IsWider}
 use Rattle.walk_areas.specs.Walking.IsRowOver.{kept, summed, added, shifted, loaded}
 use Rattle.walk_areas.specs.Walking.IsWordOver.{missed, stored}
 use Rattle.walk_checks.specs.declared.tables.WordTrace.{WordTrace}
 use Rattle.walk_checks.specs.declared.tables.WalkTable.{WalkTable}
 use Rattle.walk_checks.specs.declared.tables.WalkCase.{WalkCase}
-use Rattle.walk_checks.specs.Walked.{cert, certificate_in, certificate_of, place_view, trace_view, word_in, AreWalks, IsApart, IsApartAt, IsEdgeWalked, IsHeldBy, IsLiveSo, IsPlaceFound, IsPlaceFoundBack, IsRowFound, IsRowFoundBack, IsShort, IsWalkCase, IsWordFound, IsWordFoundBack}
+use Rattle.walk_checks.specs.Walked.{cert, certificate_in, certificate_of, place_view, trace_view, word_in, AreWalks, IsApart, IsApartAt, IsEdgeWalked, IsGrounded, IsLiveSo, IsPlaceFound, IsPlaceFoundBack, IsPlaced, IsRowFound, IsRowFoundBack, IsShort, IsWalkCase, IsWordFound, IsWordFoundBack}
 use Rattle.walk_checks.proofs.Seen.{there}
 
 -- what holds of a value that is there follows from what else holds of it
@@ -122,10 +122,10 @@ beyond_at x y z gap same h = subst (λ q. IsBeyond x q gap) (some_is y z same) h
 pub apart_at : (t : WalkTable) (k : ℕ) (y x : Arc) → Some y ≡ Some x → ((j : ℕ) → j < length t.ground.items → IsApartAt t k y j) → (j : ℕ) → j < length t.ground.items → IsApartAt t k x j
 apart_at t k y x same h = subst (λ q. (j : ℕ) → j < length t.ground.items → IsApartAt t k q j) (some_is y x same) h
 
-pub ground_in : (areas : ℕ → Option Arc) (t : WalkTable) (found : List Arc) → ((k : ℕ) → slice_get found k ≡ areas k) → All (λ (x : Arc). IsHeldBy t.ground.items x) found → All (λ (x : Arc). IsShort t x) t.ground.items →
+pub ground_in : (areas : ℕ → Option Arc) (t : WalkTable) (found : List Arc) → ((k : ℕ) → slice_get found k ≡ areas k) → All (λ (x : Arc). IsGrounded t x) found → All (λ (x : Arc). IsShort t x) t.ground.items →
     ((k : ℕ) → k < length t.ground.items → IsApart t k) → (nodes : List ℕ) → IsGround areas (certificate_of nodes t)
 ground_in areas t found same held short apart nodes = record {
-  holds = λ k x at. each_at (λ (y : Arc). IsHeldBy t.ground.items y) found k x (same k ∙ at) held;
+  holds = λ k x at. each_at (λ (y : Arc). IsGrounded t y) found k x (same k ∙ at) held;
   short = λ k x at. each_at (λ (y : Arc). IsShort t y) t.ground.items k x at short;
   apart = λ k j x y at there. apart k (slice_get_within t.ground.items k x at) x at j (slice_get_within t.ground.items j y there) y there;
 }
@@ -136,6 +136,10 @@ pub aims_in : (c : WalkCase) (k r more : ℕ) (x y z : Option Trace) → ((nodes
     IsWider x z → IsWider (aim (cert c)) (moved_by_number (operand (values_in c.claim.now) (cert c) (address c.claim.now k) r) more)
 aims_in c k r more x y z aims from same wider = subst (λ q. IsWider q (moved_by_number (operand (values_in c.claim.now) (cert c) (address c.claim.now k) r) more)) (aim_seen c x aims)
     (subst (IsWider x) (same ∙ ap (λ q. moved_by_number q more) from) wider)
+
+pub placed_in : (c : WalkCase) (k r more : ℕ) → IsPlaced c k r more → Covers (cert c).place (sum_with (held ((values_in c.claim.now).at (address c.claim.now k)) r) more)
+unfolding certificate_in
+placed_in c k r more h = h
 
 pub turn_over_in : (c : WalkCase) (k : ℕ) (i : Instr) (x y : Option Trace) → IsPlaceFound (values_in c.claim.now) (stacks_in c.claim.now) (cert c) (address c.claim.now k) i (place_view c.table.now.first) x →
     IsPlaceFound (values_in c.claim.now) (stacks_in c.claim.now) (cert c) (address c.claim.now k) i (place_view c.table.now.second) y → IsWider x x → IsWider y y →

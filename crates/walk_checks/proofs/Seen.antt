@@ -1,5 +1,5 @@
 -- What a table of a walk says at an address is what stands at the number of its node.
-use Rattle.std.proofs.Common.{◌≡◌, ℕ, ◌<◌, false, Bool, true, List, [], ◌∷◌, length, Option, Some, None, sym, ap, ◌∙◌}
+use Rattle.std.proofs.Common.{◌≡◌, ℕ, ◌<◌, false, List, [], length, Option, Some, sym, ap, ◌∙◌}
 use Rattle.std.specs.Prelude.{slice_get, Vec}
 use Rattle.std.specs.declared.alloc.Global.{Global}
 use Rattle.std.proofs.lemmas.List.{length-map}

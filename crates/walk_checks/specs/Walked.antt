@@ -8,7 +8,8 @@ use Rattle.cost_theory.specs.Graph.{Graph}
 use Rattle.code_text.specs.Text.{Text, instr_at}
 use Rattle.loop_file.specs.Kept.{in_extent}
 use Rattle.flow_graph.specs.FlowGraph.{graph}
-use Rattle.bound_laws.specs.Values.{Arc, Covers, IsRegister, Values}
+use Rattle.bound_laws.specs.Values.{Arc, Covers, held, meet_of, sum_with, IsRegister, Values}
+use Rattle.stack_laws.specs.Areas.{AreDisjoint}
 use Rattle.stack_laws.specs.Stacks.{Stacks}
 use Rattle.stack_tables.specs.Tables.{IsStackClaim, address, stacks_in, text_in, values_in}
 use Rattle.value_checks.specs.Tables.{beside}
@@ -68,6 +69,7 @@ certificate_of nodes t = record {
   least = t.least;
   spread = t.spread;
   width = t.width;
+  place = t.place;
   ground = λ k. ground t.ground.items k;
   body = beside false nodes t.body.items;
   row = λ a r. trace_in (beside [] nodes (rows_view t.rows.items) a) r;
@@ -197,9 +199,17 @@ IsEntrySo c = (k : ℕ) × (slice_get c.claim.now.graph.now.code.nodes k ≡ Som
 
 -- ---- the ground
 
--- one of the intervals holds an area
-abbrev pub IsHeldBy : List Arc → Arc → Type 0
-IsHeldBy intervals area = (j : ℕ) × (y : Arc) × (slice_get intervals j ≡ Some y) × Covers (Some y) (Some area)
+-- the address of an access by what a register holds is in the table's place
+abbrev pub IsPlaced : WalkCase → (k register more : ℕ) → Type 0
+IsPlaced c k register more = Covers c.table.now.place (sum_with (held ((values_in c.claim.now).at (at_of c k)) register) more)
+
+-- one of the intervals holds another one
+abbrev pub IsHeldBy : List Arc → (i : Option Arc) → Type 0
+IsHeldBy intervals i = (j : ℕ) × (y : Arc) × (slice_get intervals j ≡ Some y) × Covers (Some y) i
+
+-- an area has nothing in common with the place, or one of the intervals of the ground holds what it has
+abbrev pub IsGrounded : WalkTable → Arc → Type 0
+IsGrounded t area = AreDisjoint t.place area ⊎ IsHeldBy t.ground.items (meet_of t.place (Some area))
 
 -- an interval of the ground is short enough for the width
 abbrev pub IsShort : WalkTable → Arc → Type 0

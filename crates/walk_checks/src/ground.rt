@@ -1,42 +1,82 @@
-//! The ground of a walk: intervals that hold all that may be accessed, each farther from the others than a step.
+//! The ground of a walk: intervals that hold all that may be accessed in its place, each farther from the others than a step.
 
 ghost use Rattle.std.specs.Prelude.{◌≡◌, ◌<◌, ◌+◌, ◌^◌, ℕ, List, Some, length, slice_get, true};
 ghost use Rattle.std.specs.List.{All};
 ghost use Rattle.bound_laws.specs.Values as values;
+ghost use Rattle.stack_laws.specs.Areas.{AreDisjoint};
 ghost use Rattle.stack_tables.specs.Tables.{stacks_in, IsStackClaim};
-ghost use Rattle.wrapped_intervals.specs.Small.{IsKept};
+ghost use Rattle.wrapped_intervals.specs.Small.{IsFound, IsKept, IsKeptOr};
 ghost use Rattle.walk_areas.specs.Walking as walking;
-ghost use Rattle.walk_checks.specs.Walked.{certificate_of, IsApart, IsApartAt, IsHeldBy, IsShort};
+ghost use Rattle.walk_checks.specs.Walked.{certificate_of, IsApart, IsApartAt, IsGrounded, IsHeldBy, IsShort};
 
 use crate::tables::{MOST_GROUND, WalkTable};
 use stack_tables::{StackClaim, areas};
-use wrapped_intervals::{Arc, ahead, covers, is_kept};
+use wrapped_intervals::{Arc, ahead, covers, is_kept, meet_of};
 
 // How many words there are.
 const WORDS: u64 = 4_294_967_296;
 
-// Whether one of the intervals holds an area.
-fn is_held(intervals: &[Arc], area: Arc) -> bool
+// Whether one of the intervals holds another one.
+fn is_held(intervals: &[Arc], i: Arc) -> bool
     requires intervals { All IsKept intervals.now }
-    requires area { IsKept area }
-    ensures { result ≡ true → IsHeldBy intervals.now area }
+    requires other { IsFound i }
+    ensures { result ≡ true → IsHeldBy intervals.now (Some i) }
 {
     for j in 0..intervals.len() {
-        if covers(Some(intervals[j]), Some(area)) {
+        if covers(Some(intervals[j]), Some(i)) {
             return true;
         }
     }
     false
 }
 
-// The same of each area.
-fn are_held(intervals: &[Arc], areas: &[Arc]) -> bool
+// Whether the place and an area have nothing in common.
+fn is_elsewhere(place: Option<Arc>, area: Arc) -> bool
+    requires place { IsKeptOr place }
+    requires area { IsKept area }
+    ensures { result ≡ true → AreDisjoint place area }
+{
+    match place {
+        Some(place) => {
+            let distance = ahead(place.low(), area.low());
+            place.more() < distance && distance + area.more() < WORDS
+        }
+        None => false,
+    }
+}
+
+// Whether one of the intervals holds what they have in common.
+fn is_common_held(intervals: &[Arc], place: Option<Arc>, area: Arc) -> bool
     requires intervals { All IsKept intervals.now }
+    requires place { IsKeptOr place }
+    requires area { IsKept area }
+    ensures { result ≡ true → IsHeldBy intervals.now (values.meet_of place (Some area)) }
+{
+    match meet_of(place, Some(area)) {
+        Some(common) => is_held(intervals, common),
+        None => false,
+    }
+}
+
+// Whether they have nothing in common, or that is so of the ground.
+fn is_grounded(table: &WalkTable, area: Arc) -> bool
+    requires intervals { All IsKept table.now.ground.items }
+    requires place { IsKeptOr table.now.place }
+    requires area { IsKept area }
+    ensures { result ≡ true → IsGrounded table.now area }
+{
+    is_elsewhere(table.place, area) || is_common_held(&table.ground, table.place, area)
+}
+
+// The same of each area.
+fn are_grounded(table: &WalkTable, areas: &[Arc]) -> bool
+    requires intervals { All IsKept table.now.ground.items }
+    requires place { IsKeptOr table.now.place }
     requires areas { All IsKept areas.now }
-    ensures { result ≡ true → All (λ (x : values.Arc). IsHeldBy intervals.now x) areas.now }
+    ensures { result ≡ true → All (λ (x : values.Arc). IsGrounded table.now x) areas.now }
 {
     for area in areas {
-        if !is_held(intervals, *area) {
+        if !is_grounded(table, *area) {
             return false;
         }
     }
@@ -167,7 +207,10 @@ pub fn is_ground(claim: &StackClaim<'_>, table: &WalkTable) -> bool
     if !are_within(table, &table.ground) {
         return false;
     }
-    if !are_held(&table.ground, areas(claim)) {
+    if !is_kept(table.place) {
+        return false;
+    }
+    if !are_grounded(table, areas(claim)) {
         return false;
     }
     are_apart(table)

@@ -50,7 +50,9 @@ pub struct WalkTable {
     pub spread: u32,
     /// How many bytes an interval of the ground has at most, with a step behind it.
     pub width: u32,
-    /// Intervals of addresses that hold all that may be accessed, each farther from the others than a step.
+    /// The interval of the addresses that are accessed, where one is known.
+    pub place: Option<Arc>,
+    /// Intervals of addresses that hold all that may be accessed there, each farther from the others than a step.
     pub ground: Vec<Arc>,
     /// By node: whether it is code of the loop.
     pub body: Vec<bool>,

@@ -1,7 +1,7 @@
 use Rattle.std.proofs.Common.{ℕ, List, Option, inl, refl}
 use Rattle.walk_areas.specs.Walking.{IsBegun, Trace}
 use Rattle.walk_areas.specs.Walking.Place.{in_word}
-use Rattle.walk_checks.specs.Walked.{certificate_of, word_in}
+use Rattle.walk_checks.specs.Walked.{certificate_of}
 use Rattle.walk_checks.proofs.Cases.{begun_seen, each_word}
 use Rattle.walk_checks.proofs.shown.are_words_begun.Goals as goal
 
