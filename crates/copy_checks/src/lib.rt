@@ -1,0 +1,12 @@
+//! Whether the code of a versioned image shows that its loops copy loops of the original, and that its copies keep to the inlined calls
+//! that are open: edge by edge, as `copy_bounds` says it.
+#![tactic(auto)]
+
+mod copies;
+mod edges;
+mod kept;
+mod tables;
+
+pub use copies::is_copy_shown;
+pub use kept::are_calls_kept;
+pub use tables::{CopyCode, CopyTable, Meant};
