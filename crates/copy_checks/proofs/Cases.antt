@@ -1,5 +1,5 @@
 -- What stands beside the addresses of a case's nodes stands at their numbers, and what they stand for, likewise.
-use Rattle.std.proofs.Common.{◌≡◌, ℕ, Bool, true, false, List, Option, Some, sym, ◌∙◌, ap, eqb-true, eq-eqb}
+use Rattle.std.proofs.Common.{◌≡◌, ℕ, true, false, List, Option, Some, sym, ◌∙◌, ap, eqb-true, eq-eqb}
 use Rattle.std.specs.Prelude.{◌==◌, slice_get, option_map}
 use Rattle.flow_graph.proofs.Laws.{some_is}
 use Rattle.loop_file.specs.declared.notes.LoopNote.{LoopNote}

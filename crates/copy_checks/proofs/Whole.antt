@@ -1,6 +1,5 @@
 -- What the code says of each edge is that a loop is a copy, and that copies keep to the inlined calls that are open.
-use Rattle.std.proofs.Common.{◌≡◌, ◌≢◌, ℕ, ◌<◌, ◌≤◌, ◌⊎◌, inl, inr, ⊎_elim, Bool, true, false, List, length, Option, Some, refl, sym, ap, ◌∙◌, subst}
-use Rattle.std.specs.Prelude.{slice_get}
+use Rattle.std.proofs.Common.{◌≡◌, ◌≢◌, ℕ, ◌<◌, ◌≤◌, ◌⊎◌, inl, inr, ⊎_elim, true, false, List, length, Some, refl, sym, ap, ◌∙◌, subst}
 use Rattle.std.proofs.lemmas.Option.{slice_get_within}
 use Rattle.cost_theory.specs.Graph.{Graph}
 use Rattle.code_text.specs.Text.{Text}
@@ -10,10 +9,10 @@ use Rattle.loop_file.specs.declared.notes.LoopNote.{LoopNote}
 use Rattle.loop_file.specs.Kept.{in_extent, note_at, noted_loops}
 use Rattle.bound_laws.specs.Turning.{Leads, Calls}
 use Rattle.value_checks.proofs.Laws.{beside_node}
-use Rattle.copy_bounds.specs.Copies.{counts_from, CopiesLoop, IsCopy, KeepsOpenCalls, Meaning}
+use Rattle.copy_bounds.specs.Copies.{CopiesLoop, IsCopy, KeepsOpenCalls, Meaning}
 use Rattle.copy_checks.specs.declared.tables.CopyCase.{CopyCase}
 use Rattle.copy_checks.specs.declared.tables.Meant.{Meant}
-use Rattle.copy_checks.specs.Checked.{opened_items, AreApart, AreEdgesSo, AreMeant, IsBegun, IsCalledAt, IsCase, IsKeptSo, IsLedAt, IsNode}
+use Rattle.copy_checks.specs.Checked.{AreApart, AreEdgesSo, AreMeant, IsBegun, IsCalledAt, IsCase, IsKeptSo, IsLedAt, IsNode}
 use Rattle.copy_checks.proofs.Cases.{ahead_is, body_is, cert, counts_is, extra_is, header_address, header_number, quiet_is, stands_so, stands_there}
 
 copy : (c : CopyCase) → IsCase c → (m : Meaning) (t : Text) → AreMeant m c.graph.now.code.nodes c.meant.now → IsBegun c t.entry → AreEdgesSo c → AreApart c →

@@ -1,7 +1,6 @@
 -- Scaffold: certificates of copies by lists, as what `copy_bounds` calls a certificate, and what the code says of them, edge by edge.
-use Rattle.std.specs.Prelude.{◌≡◌, ◌≢◌, ◌==◌, ℕ, ◌<◌, ◌⊎◌, Bool, true, false, List, length, slice_get, option_map, Option, Some, None, Vec}
+use Rattle.std.specs.Prelude.{◌≡◌, ◌≢◌, ◌==◌, ℕ, ◌<◌, ◌⊎◌, Bool, true, false, List, length, slice_get, option_map, Option, Some, Vec}
 use Rattle.std.specs.declared.alloc.Global.{Global}
-use Rattle.cost_theory.specs.Graph.{Graph}
 use Rattle.loop_file.specs.declared.notes.LoopNote.{LoopNote}
 use Rattle.loop_file.specs.Kept.{in_extent}
 use Rattle.flow_graph.specs.FlowGraph.{graph, FlowGraph, IsFlowGraph}

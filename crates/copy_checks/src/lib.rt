@@ -5,8 +5,10 @@
 mod copies;
 mod edges;
 mod kept;
+mod meanings;
 mod tables;
 
 pub use copies::is_copy_shown;
 pub use kept::are_calls_kept;
+pub use meanings::{CopiedCode, meanings_of};
 pub use tables::{CopyCode, CopyTable, Meant};
