@@ -6,9 +6,11 @@ mod copies;
 mod edges;
 mod kept;
 mod meanings;
+mod search;
 mod tables;
 
 pub use copies::is_copy_shown;
 pub use kept::are_calls_kept;
 pub use meanings::{CopiedCode, meanings_of};
+pub use search::{CopyBody, copy_table};
 pub use tables::{CopyCode, CopyTable, Meant};
