@@ -134,12 +134,16 @@ IsApart c k = quiet_at c.table.now k ≡ true → stands_at c.meant.now k c.old.
 abbrev pub AreApart : CopyCase → Type 0
 AreApart c = (k : ℕ) → k < length c.graph.now.code.nodes → IsApart c k
 
+-- a run doesn't start within the body, but at the header
+abbrev pub IsStarted : CopyCase → ℕ → Type 0
+IsStarted c entry = (k : ℕ) → slice_get c.graph.now.code.nodes k ≡ Some entry → body_at c.table.now k ≡ true → k ≡ c.header
+
 -- of the header, and of the start of a run
 pub record IsBegun (c : CopyCase) (entry : ℕ) : Type 0 where
   pub first : body_at c.table.now c.header ≡ true
   pub begins : ahead_at c.table.now c.header ≡ false
   pub stands : stands_at c.meant.now c.header c.old.now.header ≡ true
-  pub started : (k : ℕ) → slice_get c.graph.now.code.nodes k ≡ Some entry → body_at c.table.now k ≡ true → k ≡ c.header
+  pub started : IsStarted c entry
 
 -- ---- the inlined calls that are open
 

@@ -1,6 +1,6 @@
 //! Whether a loop of a versioned image is a copy of one of the original.
 
-ghost use Rattle.std.specs.Prelude.{◌≡◌, ◌<◌, ◌≤◌, ℕ, List, Some, length, slice_get, true};
+ghost use Rattle.std.specs.Prelude.{◌≡◌, ◌<◌, ◌≤◌, ℕ, List, length, true};
 ghost use Rattle.loop_file.specs.declared.notes.LoopNote.{LoopNote};
 ghost use Rattle.loop_file.specs.Kept.{note_at, noted_loops};
 ghost use Rattle.code_text.specs.Text.{Text};
@@ -35,8 +35,7 @@ fn is_enough(note: &LoopNote, old: &LoopNote) -> bool
 // Whether a run doesn't start within the body, but at the header.
 fn is_started(case: &CopyCase<'_>, entry: u32) -> bool
     requires { checked.IsCase case.now }
-    ensures { result ≡ true → (k : ℕ) → slice_get case.now.graph.now.code.nodes k ≡ Some entry → checked.body_at case.now.table.now k ≡ true →
-        k ≡ case.now.header }
+    ensures { result ≡ true → checked.IsStarted case.now entry }
 {
     match case.graph.find(entry) {
         Some(k) => k == case.header || !is_body(case.table, k),
@@ -84,8 +83,9 @@ pub fn is_copy_shown(
     old: &LoopNote,
     table: &CopyTable,
 ) -> bool
-    ensures { result ≡ true → (m : Meaning) (t : Text) (notes olds : List LoopNote) (k n : ℕ) → IsGraphOf t code.now.graph.now → t.entry ≡ code.now.entry →
-        checked.AreMeant m code.now.graph.now.code.nodes code.now.meant.now → note_at notes k ≡ note.now → n < length olds → note_at olds n ≡ old.now →
+    ensures { result ≡ true → (m : Meaning) (t : Text) (notes olds : List LoopNote) (k n : ℕ) → IsGraphOf t code.now.graph.now →
+        t.entry ≡ code.now.entry → checked.AreMeant m code.now.graph.now.code.nodes code.now.meant.now → note_at notes k ≡ note.now →
+        n < length olds → note_at olds n ≡ old.now →
         CopiesLoop m t (text_graph t code.now.graph.now.code) (noted_loops olds) (noted_loops notes) k }
 {
     let graph = code.graph;

@@ -229,7 +229,8 @@ fn behind_of(
     at: u32,
     returns: &[u32],
 ) -> Result<Option<Vec<u32>>, NoMemory>
-    ensures { IfOk result (λ made. checked.opened_items made ≡ if extra then Some returns.now else meanings.opened_by piece at returns.now) }
+    ensures { IfOk result (λ made. checked.opened_items made ≡
+        if extra then Some returns.now else meanings.opened_by piece at returns.now) }
 {
     if extra {
         Ok(Some(returns.to_vec(alloc)?))

@@ -6,9 +6,9 @@ ghost use Rattle.copy_checks.specs.Checked as checked;
 use flow_graph::CodeGraph;
 use loop_file::{LoopNote, in_extent};
 
-/// What a node of a versioned image stands for: the address of the text; whether no step of the original is made there; whether it is a word
-/// of the text as it was; the return addresses of the inlined calls that it lies in, the innermost first, and of those behind its step, where
-/// it has one; and the address that a step of the original comes from, where that is known.
+/// What a node of a versioned image stands for: the address of the text; whether no step of the original is made there; whether it is a
+/// word of the text as it was; the return addresses of the inlined calls that it lies in, the innermost first, and of those behind its
+/// step, where it has one; and the address that a step of the original comes from, where that is known.
 #[derive(Drop)]
 pub struct Meant {
     pub text_at: u32,
@@ -19,8 +19,8 @@ pub struct Meant {
     pub source: Option<u32>,
 }
 
-/// Why a loop is a copy of one of the original, by node: whether it is code of the copy; whether it may run while a call from there is open;
-/// and whether the original has counted a turn there that the copy hasn't counted yet.
+/// Why a loop is a copy of one of the original, by node: whether it is code of the copy; whether it may run while a call from there is
+/// open; and whether the original has counted a turn there that the copy hasn't counted yet.
 #[derive(Drop)]
 pub struct CopyTable {
     pub body: Vec<bool>,
