@@ -1,14 +1,18 @@
 -- Scaffold: certificates of copies by lists, as what `copy_bounds` calls a certificate, and what the code says of them, edge by edge.
-use Rattle.std.specs.Prelude.{◌≡◌, ◌≢◌, ◌==◌, ℕ, ◌<◌, ◌⊎◌, Bool, true, false, List, length, slice_get, option_map, Option, Some, Vec}
+use Rattle.std.specs.Prelude.{◌≡◌, ◌≢◌, ◌==◌, ℕ, ◌<◌, ◌⊎◌, Bool, true, false, List, length, slice_get, option_map, Option, Some, None, Vec}
 use Rattle.std.specs.declared.alloc.Global.{Global}
 use Rattle.loop_file.specs.declared.notes.LoopNote.{LoopNote}
-use Rattle.loop_file.specs.Kept.{in_extent}
-use Rattle.flow_graph.specs.FlowGraph.{graph, FlowGraph, IsFlowGraph}
+use Rattle.loop_file.specs.Kept.{in_extent, note_at, noted_loops}
+use Rattle.code_text.specs.Text.{Text}
+use Rattle.code_text.specs.TextGraph.{text_graph}
+use Rattle.flow_graph.specs.FlowGraph.{graph, FlowGraph, IsFlowGraph, IsGraphOf}
 use Rattle.value_checks.specs.Tables.{beside, or_other}
-use Rattle.copy_bounds.specs.Copies.{counts_from, CopyCertificate, Meaning}
+use Rattle.copy_bounds.specs.Copies.{counts_from, CopiesLoop, CopyCertificate, Meaning}
 use Rattle.copy_checks.specs.declared.tables.Meant.{Meant}
 use Rattle.copy_checks.specs.declared.tables.CopyTable.{CopyTable}
 use Rattle.copy_checks.specs.declared.tables.CopyCase.{CopyCase}
+use Rattle.copy_checks.specs.declared.tables.CopyCode.{CopyCode}
+use Rattle.copy_checks.specs.declared.covering.CopyReason.{CopyReason}
 
 -- ---- what nodes stand for
 
@@ -156,3 +160,20 @@ IsKeptAt meant k n = (x y : Meant) → slice_get meant k ≡ Some x → slice_ge
 abbrev pub IsKeptSo : FlowGraph → List Meant → ℕ → Type 0
 IsKeptSo v meant e = (b : ℕ) → (graph v).target e ≡ Some b → (k : ℕ) × (n : ℕ) × (slice_get v.code.nodes k ≡ Some ((graph v).source e)) ×
     (slice_get v.code.nodes n ≡ Some b) × IsKeptAt meant k n
+
+-- ---- all loops of a versioned image
+
+-- the loop of a note copies one of others
+abbrev pub IsCopied : CopyCode → LoopNote → List LoopNote → Type 0
+IsCopied c note olds = (m : Meaning) (t : Text) (notes : List LoopNote) (k : ℕ) → IsGraphOf t c.graph.now → t.entry ≡ c.entry →
+    AreMeant m c.graph.now.code.nodes c.meant.now → note_at notes k ≡ note →
+    CopiesLoop m t (text_graph t c.graph.now.code) (noted_loops olds) (noted_loops notes) k
+
+-- it doesn't have to turn, and is one, or has no reason here
+pub record IsCovered (c : CopyCode) (note : LoopNote) (olds : List LoopNote) (reason : Option CopyReason) : Type 0 where
+  pub late : note.at_least ≡ 0
+  pub copied : (reason ≡ None) ⊎ IsCopied c note olds
+
+abbrev pub AreCopied : CopyCode → List LoopNote → List LoopNote → List (Option CopyReason) → Type 0
+AreCopied c notes olds reasons = (k : ℕ) → k < length notes → (reason : Option CopyReason) × (slice_get reasons k ≡ Some reason) ×
+    IsCovered c (note_at notes k) olds reason

@@ -4,6 +4,7 @@
 #![tactic(auto)]
 
 mod copies;
+mod covering;
 mod edges;
 mod kept;
 mod meanings;
@@ -11,6 +12,7 @@ mod search;
 mod tables;
 
 pub use copies::is_copy_shown;
+pub use covering::{CopyReason, are_covered};
 pub use kept::are_calls_kept;
 pub use meanings::{CopiedCode, meanings_of};
 pub use search::{CopyBody, copy_table};
