@@ -1,6 +1,6 @@
 //! Whether the code of a versioned image shows that its loops copy loops of the original, and that its copies keep to the inlined calls
 //! that are open: edge by edge, as `copy_bounds` says it.
-//! Tests: none yet.
+//! Tests: crates/version_tests/src/copies.rt.
 #![tactic(auto)]
 
 mod copies;
