@@ -6,14 +6,17 @@ use Rattle.std.specs.List.{cons_option}
 use Rattle.loop_versions.specs.declared.pieces.Piece.{Piece}
 use Rattle.loop_versions.specs.Pieces.{behind, extra_len, in_extra}
 use Rattle.copy_bounds.specs.Meanings.{piece_round}
-use Rattle.loop_versions.proofs.OpenCalls as calls
 use Rattle.flow_graph.proofs.Laws.{less_same_more, some_is}
 
 pub with_one : (o : Option ℕ) (xs own : List ℕ) → own ≡ cons_option o [] → xs ++ own ≡ xs ++ cons_option o []
-with_one o xs own e = calls.with_one o xs own e
+with_one o xs own e = ap (λ (ys : List ℕ). xs ++ ys) e
+
+append_none : (xs : List ℕ) → xs ++ [] ≡ xs
+append_none [] = refl
+append_none (x ∷ xs) = ap (λ (ys : List ℕ). x ∷ ys) (append_none xs)
 
 pub with_none : (xs own : List ℕ) → own ≡ [] → xs ≡ xs ++ own
-with_none xs own e = calls.with_none xs own e
+with_none xs own e = sym (ap (λ (ys : List ℕ). xs ++ ys) e ∙ append_none xs)
 
 -- a place is not below an address that lies in front of it
 low_off : (place v : ℕ) (b : Bool) → v < place → (nat_le place v && b) ≡ false
