@@ -6,6 +6,8 @@ mod calling;
 #[cfg(test)]
 mod calls;
 #[cfg(test)]
+mod copies;
+#[cfg(test)]
 mod programs;
 #[cfg(test)]
 mod proposals;
