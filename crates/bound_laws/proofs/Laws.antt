@@ -1,5 +1,5 @@
 -- The laws of loop bounds, for the proofs of crates above.
-pub use Rattle.bound_laws.proofs.Arcs.{IsBetween, below_top, in_covers, in_exactly, in_word, meet_in, meet_of_in, of_biased, of_plain, only_one, scaled_in, sum_in, sum_with_in, without_in}
+pub use Rattle.bound_laws.proofs.Arcs.{IsBetween, below_top, in_covers, in_exactly, in_word, meet_in, meet_of_in, negated_in, of_biased, of_plain, only_one, scaled_in, sum_in, sum_with_in, without_in}
 pub use Rattle.bound_laws.proofs.Before.{kept_before}
 pub use Rattle.bound_laws.proofs.Differences.{compared_in}
 pub use Rattle.bound_laws.proofs.Effects.{step_of, steps_add, steps_leave}

@@ -1,4 +1,5 @@
 pub mod Stores
+pub mod Written
 pub mod Naming
 pub mod Covering
 pub mod Making

@@ -31,7 +31,8 @@ use Rattle.stack_laws.specs.Counting.Counter.{in_registers, in_word}
 use Rattle.stack_laws.specs.Laws.{StackValuesHold}
 use Rattle.std.proofs.lemmas.Nat.{mod_below}
 use Rattle.stack_laws.proofs.Covering.{IsSo}
-use Rattle.stack_laws.proofs.Stepping.{name_held, span_held, results, far_keeps, misses, spares, puts, gets, numbers}
+use Rattle.stack_laws.proofs.Stepping.{name_held, span_held, far_keeps, misses, spares, puts, gets}
+use Rattle.stack_laws.proofs.Written.{numbers, results}
 use Rattle.stack_laws.proofs.Cells.{cell_kept, reads}
 use Rattle.stack_laws.proofs.Areas.{accesses}
 use Rattle.stack_laws.proofs.Moving.{call_links}
@@ -128,9 +129,9 @@ module _ (t : Text) (env : Setting) (ok : IsTextOf t env) (code : Code) (is : Is
         both : AreTold v w next.pc (view_of w begun next.regs next.bytes) × Frames t g v w inv next.pc begun next.bytes at.calls xs
         both = step_frames t g v w inv u.pc next.pc i begun u.regs next.regs u.bytes next.bytes facts.1 kept holds adds so none at.over.zero at.over.size over.zero over.size now.told now.memory bytes
             (misses env laid.keyless v w inv.offsets u at.over.zero at.over.size begun now.told i fetch) (puts env laid.keyless v w inv.offsets u at.over.zero at.over.size begun now.told i fetch x went)
-            (gets env laid.keyless v w inv.offsets u at.over.zero at.over.size begun now.told i fetch x went) (numbers env laid.keyless v w inv.offsets u at.over.zero at.over.size begun now.told i fetch x went)
+            (gets env laid.keyless v w inv.offsets u at.over.zero at.over.size begun now.told i fetch x went) (numbers env u at.over.size i fetch x went)
             (far_keeps env laid.keyless v w inv.offsets u at.over.zero at.over.size begun now.told i fetch) (name_held env laid.keyless v w inv.offsets u at.over.zero at.over.size begun now.told i fetch)
-            (span_held env laid.keyless v w inv.offsets u at.over.zero at.over.size begun now.told i fetch) (results env laid.keyless v w inv.offsets u at.over.zero at.over.size begun now.told i fetch x went)
+            (span_held env laid.keyless v w inv.offsets u at.over.zero at.over.size begun now.told i fetch) (results env u at.over.size i fetch x went)
             (left leads.0 leads.1 leads.2) (cells leads.0 leads.1 leads.2) (reads env laid.keyless v w inv.offsets u at.over.zero at.over.size begun now.told i fetch x went)
             (accesses env laid.keyless v w inv.offsets u at.over.zero at.over.size begun now.told i fetch laid x went) at.calls xs leads steps now.frames
 
@@ -140,9 +141,9 @@ module _ (t : Text) (env : Setting) (ok : IsTextOf t env) (code : Code) (is : Is
         both : AreTold v w next.pc (view_of w next.regs next.regs next.bytes) × Frames t g v w inv next.pc next.regs next.bytes (u.pc ∷ at.calls) (view_of w begun u.regs u.bytes ∷ xs)
         both = call_frames t g v w inv u.pc next.pc i begun u.regs next.regs u.bytes next.bytes facts.1 kept holds adds so none at.over.zero at.over.size over.zero over.size now.told now.memory bytes
             (misses env laid.keyless v w inv.offsets u at.over.zero at.over.size begun now.told i fetch) (puts env laid.keyless v w inv.offsets u at.over.zero at.over.size begun now.told i fetch x went)
-            (gets env laid.keyless v w inv.offsets u at.over.zero at.over.size begun now.told i fetch x went) (numbers env laid.keyless v w inv.offsets u at.over.zero at.over.size begun now.told i fetch x went)
+            (gets env laid.keyless v w inv.offsets u at.over.zero at.over.size begun now.told i fetch x went) (numbers env u at.over.size i fetch x went)
             (far_keeps env laid.keyless v w inv.offsets u at.over.zero at.over.size begun now.told i fetch) (name_held env laid.keyless v w inv.offsets u at.over.zero at.over.size begun now.told i fetch)
-            (span_held env laid.keyless v w inv.offsets u at.over.zero at.over.size begun now.told i fetch) (results env laid.keyless v w inv.offsets u at.over.zero at.over.size begun now.told i fetch x went)
+            (span_held env laid.keyless v w inv.offsets u at.over.zero at.over.size begun now.told i fetch) (results env u at.over.size i fetch x went)
             (left call.0 call.2 call.3) (cells call.0 call.2 call.3) (reads env laid.keyless v w inv.offsets u at.over.zero at.over.size begun now.told i fetch x went)
             (accesses env laid.keyless v w inv.offsets u at.over.zero at.over.size begun now.told i fetch laid x went) at.calls xs (call_links env u i fetch x went at.over.size moved) call now.frames
 

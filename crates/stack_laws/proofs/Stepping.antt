@@ -240,15 +240,6 @@ module _ (env : Setting) (keyless : env.layout.keyed ≡ None) (v : Values) (w :
     pub gets : (k r : ℕ) → IsRegister r → IsLoadedTo w s.pc i k r → reg after.regs r ≡ word_at s.bytes (word_address w begun k)
     gets k r is h = step_of (λ o. o.end ≡ Went x → reg o.state.regs r ≡ word_at s.bytes (word_address w begun k)) env s i here
         (λ end. loaded_as k r is i h.0 h.1 end) (λ end. let bad : ⊥ = cc in absurd bad) went
-
-    pub numbers : (op : ImmOp) (r rs : ℕ) (imm : ℤ) → IsRegister r → i ≡ Imm op r rs imm → reg after.regs r ≡ imm_result op (reg s.regs rs) imm
-    numbers op r rs imm is e = step_of (λ o. o.end ≡ Went x → reg o.state.regs r ≡ imm_result op (reg s.regs rs) imm) env s i here
-        (λ end. subst (λ j. reg (performs env s i j).state.regs r ≡ imm_result op (reg s.regs rs) imm) (sym e) (put s.regs r (imm_result op (reg s.regs rs) imm) is size)) (λ end. let bad : ⊥ = cc in absurd bad) went
-
-    pub results : (op : RegOp) (r rs1 rs2 : ℕ) → IsRegister r → i ≡ Reg op r rs1 rs2 → reg after.regs r ≡ reg_result op (reg s.regs rs1) (reg s.regs rs2)
-    results op r rs1 rs2 is e = step_of (λ o. o.end ≡ Went x → reg o.state.regs r ≡ reg_result op (reg s.regs rs1) (reg s.regs rs2)) env s i here
-        (λ end. subst (λ j. reg (performs env s i j).state.regs r ≡ reg_result op (reg s.regs rs1) (reg s.regs rs2)) (sym e) (put s.regs r (reg_result op (reg s.regs rs1) (reg s.regs rs2)) is size)) (λ end. let bad : ⊥ = cc in absurd bad) went
-
 -- a load stores nothing, and a store changes no register
 pub load_far : (v : Values) (a : ℕ) (y : Option Arc) (i : Instr) (r : ℕ) → word_loaded i ≡ Some r → IsFar v a i y
 load_far v a y (Load Lw rd rs1 offset) r e = tt

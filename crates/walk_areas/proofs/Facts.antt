@@ -7,13 +7,12 @@ use Rattle.scale_base.specs.State.{reg}
 use Rattle.cost_theory.specs.Graph.{Graph}
 use Rattle.code_text.specs.Text.{Text}
 use Rattle.bound_laws.specs.Values.{Arc, IsIn, IsHeld, arc, strided, negated, negated_of, Covers, IsRegister, Values}
-use Rattle.bound_laws.proofs.Laws.{in_covers, in_word}
+use Rattle.bound_laws.proofs.Laws.{in_covers, in_word, negated_in}
 use Rattle.stack_laws.specs.Stacks.{Stacks, View}
 use Rattle.walk_areas.specs.Walking.{Trace, traced, IsTraced, IsWider, multiplied, Place, number_in, WalkCertificate, pointer, steps_of, IsMoved, IsGround, IsBegun, IsWalkCertificate}
 use Rattle.walk_areas.specs.Walking.Place.{in_register, in_word as in_stack}
 use Rattle.walk_areas.proofs.Traces.{wider_in, both_in, times_in, first_in, second_in}
 use Rattle.walk_areas.proofs.Grounds.{IsStep, IsHere, IsGood, few_good}
-use Rattle.walk_areas.proofs.Opposites.{negated_in}
 
 -- where the pointer points, by the numbers in both places at the header
 abbrev pub aimed : WalkCertificate → (first second : ℕ) → ℕ

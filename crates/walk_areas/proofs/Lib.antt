@@ -1,6 +1,4 @@
 mod Traces
-mod Opposites
-mod Written
 mod Grounds
 mod Facts
 mod Turns

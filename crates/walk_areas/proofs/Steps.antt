@@ -16,7 +16,7 @@ use Rattle.bound_laws.specs.Values.{IsIn, IsHeld, held, strided, sum_with, IsReg
 use Rattle.bound_laws.proofs.Laws.{held_of, in_covers, only_one, steps_leave, sum_with_in}
 use Rattle.stack_laws.specs.Areas.{IsLaidOut}
 use Rattle.stack_laws.specs.Stacks.{Stacks, View, view_of, AreTold}
-use Rattle.stack_laws.proofs.Laws.{gets, puts, misses, usable}
+use Rattle.stack_laws.proofs.Laws.{gets, puts, misses, usable, numbers, results}
 use Rattle.walk_areas.specs.Walking.{Trace, IsTraced, IsWider, moved_by_number, sum_of_both, multiplied, Place, number_in, WalkCertificate, row_of, operand, aim, IsRowOver, IsWordOver, IsPlaceOver, IsAimed, IsTouched, IsGround}
 use Rattle.walk_areas.specs.Walking.IsRowOver.{untraced, kept, summed, added, shifted, loaded}
 use Rattle.walk_areas.specs.Walking.IsWordOver.{untraced as untraced_word, missed, stored}
@@ -24,7 +24,6 @@ use Rattle.walk_areas.specs.Walking.Place.{in_register, in_word}
 use Rattle.walk_areas.proofs.Traces.{wider_in, same_in, number_in as sum_in, both_in, times_in, or_in}
 use Rattle.walk_areas.proofs.Grounds.{IsHere, shown}
 use Rattle.walk_areas.proofs.Facts.{Facts, aimed}
-use Rattle.walk_areas.proofs.Written.{numbers, results}
 
 twice : (n : ℕ) → n % 2 ^ 32 % 2 ^ 32 ≡ n % 2 ^ 32
 twice n = omega arith

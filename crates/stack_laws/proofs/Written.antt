@@ -1,4 +1,4 @@
--- What an operation puts into its register.
+-- What an operation with a number or a register puts into its register.
 use Rattle.std.proofs.Common.{◌≡◌, ℕ, ◌<◌, List, length, ap, ◌∙◌, subst, sym, arith, get_or-set_same, Some}
 use Rattle.std.specs.Prelude.{ℤ}
 use Rattle.std.proofs.lemmas.Bool.{cond-false, ne_eqb}
@@ -14,12 +14,7 @@ use Rattle.scale_base.specs.State.{Setting, State, reg, with_reg, word_at}
 use Rattle.scale_base.specs.Step.{performs, step}
 use Rattle.bound_laws.specs.Values.{IsRegister}
 use Rattle.bound_laws.proofs.Laws.{step_of}
-
-put : (regs : List ℕ) (rd value : ℕ) → IsRegister rd → length regs ≡ 32 → reg (with_reg regs rd value) rd ≡ value
-put regs rd value is size = ap (λ xs. reg xs rd) (cond-false _ _ _ (ne_eqb rd 0 high)) ∙ get_or-set_same regs rd value 0 (let lt : rd < 32 = is.1 in omega arith)
-  where
-    high : rd ≡ 0 → ⊥
-    high e = let some : 0 < rd = is.0 in let bad : ⊥ = omega arith in bad
+use Rattle.stack_laws.proofs.Stores.{put}
 
 module _ (env : Setting) (s : State) (size : length s.regs ≡ 32) (i : Instr) (here : instr_of (word_at s.bytes s.pc) ≡ Some i) (x : Stepped) (went : (step env s).end ≡ Went x) where
   pub numbers : (op : ImmOp) (r rs : ℕ) (imm : ℤ) → IsRegister r → i ≡ Imm op r rs imm → reg (step env s).state.regs r ≡ imm_result op (reg s.regs rs) imm
