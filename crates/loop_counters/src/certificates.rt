@@ -25,9 +25,6 @@ use wrapped_intervals::Measure;
 /// Bounds from here on say nothing.
 const NO_BOUND: u32 = 0x8000_0000;
 
-/// Where a counter has such a bound, it is looked at what else turns do: that of a pointer may be the size of its segment.
-const WIDE: u32 = 16;
-
 /// Where a certificate has such a bound, a walk through memory is looked at, too.
 const FAR: u32 = 1024;
 
@@ -223,11 +220,6 @@ fn certificate_by(alloc: Global, table: TurnTable) -> StackCertificate {
     }
 }
 
-// How many turns there may be, by what each turn does.
-fn bound_by(table: &TurnTable) -> u32 {
-    table.width.checked_div(table.least).unwrap_or(u32::MAX)
-}
-
 // What is counted in, by what each turn does.
 fn counter_by(table: &TurnTable) -> StackCounter {
     let (factor, shift) = match table.kind {
@@ -251,11 +243,11 @@ fn counter_by(table: &TurnTable) -> StackCounter {
     }
 }
 
-// Whether there is a counter whose bound is less than a number.
-fn is_within(counter: &Option<Choice>, number: u32) -> bool {
+// The bound of a counter.
+fn bound_of(counter: &Option<Choice>) -> Option<u32> {
     match counter {
-        Some(choice) => choice.limits.bound() < number,
-        None => false,
+        Some(choice) => Some(choice.limits.bound()),
+        None => None,
     }
 }
 
@@ -268,10 +260,8 @@ fn counted(
     let register = choose_register(alloc, scope)?;
     let place = choose_word(alloc, scope, register)?;
     let counter = choose_sum(alloc, scope, place)?;
-    if let Some(table) = find_turns(alloc, scope, most, !is_within(&counter, WIDE))? {
-        if !is_within(&counter, bound_by(&table).saturating_add(1)) {
-            return Ok(Some(certificate_by(alloc, table)));
-        }
+    if let Some(table) = find_turns(alloc, scope, most, bound_of(&counter))? {
+        return Ok(Some(certificate_by(alloc, table)));
     }
     match counter {
         Some(choice) if choice.limits.bound() < NO_BOUND => {
