@@ -240,6 +240,7 @@ module _ (env : Setting) (keyless : env.layout.keyed ≡ None) (v : Values) (w :
     pub gets : (k r : ℕ) → IsRegister r → IsLoadedTo w s.pc i k r → reg after.regs r ≡ word_at s.bytes (word_address w begun k)
     gets k r is h = step_of (λ o. o.end ≡ Went x → reg o.state.regs r ≡ word_at s.bytes (word_address w begun k)) env s i here
         (λ end. loaded_as k r is i h.0 h.1 end) (λ end. let bad : ⊥ = cc in absurd bad) went
+
 -- a load stores nothing, and a store changes no register
 pub load_far : (v : Values) (a : ℕ) (y : Option Arc) (i : Instr) (r : ℕ) → word_loaded i ≡ Some r → IsFar v a i y
 load_far v a y (Load Lw rd rs1 offset) r e = tt
