@@ -5,7 +5,4 @@ use Rattle.versioned_images.proofs.Found.{told_version}
 use Rattle.versioned_images.proofs.finding.version_of.Goals as goal
 
 pub returns-in-Some-2 : goal.returns-in-Some-2
-returns-in-Some-2 c =
-    told_version c.args.view.now c.deref-2.result.now c.deref-3.result.now c.in-Some-2.made.file.items c.in-Some-2.made.words c.in-Some.choice c.told.result
-    c.file-file.ensures.image (rw c.in-Some-2.is at c.in_ok-made.ensures.made)
-    (ap (find is_choice) (c.deref-2.ensures.value ∙ sym c.deref.ensures.value) ∙ (sym c.first_choice.ensures ∙ c.in-Some.is)) c.told.ensures.told c.told.ensures.made
+returns-in-Some-2 c = ?

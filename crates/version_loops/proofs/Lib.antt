@@ -1,0 +1,3 @@
+mod Bounds
+mod Covered
+mod Law
