@@ -1,3 +1,4 @@
 mod Bounds
 mod Covered
 mod Law
+pub mod Laws
