@@ -20,7 +20,7 @@ use Rattle.loop_drafts.specs.declared.drafted.LoopDraft.{LoopDraft}
 use Rattle.loop_drafts.specs.Bounds.{IsOpen, IsBoundShown, AreNoneFound, AreBoundsShown, AreBoundsFound}
 use Rattle.loop_drafts.specs.Drafted.{filled_most, IsDraftOf, IsDrafted}
 use Rattle.loop_drafts.specs.Kept.{AreBytes}
-use Rattle.loop_drafts.proofs.Laws.{shown_as}
+use Rattle.version_loops.proofs.Shown.{shown_as}
 use Rattle.copy_bounds.specs.Laws.{IsBoundKept}
 use Rattle.version_loops.specs.Checked.{AreNotesDrafted, IsDraftedAs}
 

@@ -3,3 +3,4 @@ mod Covered
 mod Law
 mod Stops
 pub mod Laws
+mod Shown

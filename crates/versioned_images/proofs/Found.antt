@@ -37,16 +37,16 @@ is_version image pieces sites file base words to choice version read by first is
       words = (made.words_are ∙ by.words_are) ∙ (ap (λ ps. length (pieces_code image base ps)) made.pieces_are ∙ ap (λ b. length (pieces_code image b version.pieces.items)) made.base_is);
     }
 
-pub told_version : (image : Image) (pieces : Vec Piece Global) (sites : Vec Site Global) (file : List ℕ) (base words : ℕ) (choice : Piece) (told : Option Version) →
-    image_of image.file ≡ Ok image → IsVersionedBy image pieces.items sites.items file base words → find is_choice pieces.items ≡ Some choice →
+pub told_version : (image : Image) (pieces : List Piece) (sites : List Site) (own : Vec Piece Global) (its : Vec Site Global) (file : List ℕ) (base words : ℕ) (choice : Piece) (told : Option Version) →
+    own.items ≡ pieces → its.items ≡ sites → image_of image.file ≡ Ok image → IsVersionedBy image pieces sites file base words → find is_choice pieces ≡ Some choice →
     IfSome told (λ version. (to : ℕ) × (choice ≡ Guard version.header version.larger version.smaller version.limit to)) →
     IfSome told (λ version. (version.file.items ≡ file) × (version.words ≡ words) × (version.base ≡ base)) →
-    IfSome told (λ version. (version.pieces ≡ pieces) × (version.sites ≡ sites)) → IfSome told (IsVersionOf image.file)
-told_version image pieces sites file base words choice None read by first is made code = tt
-told_version image pieces sites file base words choice (Some version) read by first is made code =
-    is_version image pieces.items sites.items file base words is.0 choice version read by first is.1 (record {
-      pieces_are = sym (ap (λ (ps : Vec Piece Global). ps.items) code.0);
-      sites_are = sym (ap (λ (ss : Vec Site Global). ss.items) code.1);
+    IfSome told (λ version. (version.pieces ≡ own) × (version.sites ≡ its)) → IfSome told (IsVersionOf image.file)
+told_version image pieces sites own its file base words choice None same_pieces same_sites read by first is made code = tt
+told_version image pieces sites own its file base words choice (Some version) same_pieces same_sites read by first is made code =
+    is_version image pieces sites file base words is.0 choice version read by first is.1 (record {
+      pieces_are = sym (ap (λ (ps : Vec Piece Global). ps.items) code.0 ∙ same_pieces);
+      sites_are = sym (ap (λ (ss : Vec Site Global). ss.items) code.1 ∙ same_sites);
       base_is = sym made.2;
       file_is = made.0;
       words_are = made.1;
