@@ -1,5 +1,6 @@
 -- The answer to `fit` where versions are tried has a status that may be given, and keeps its promise.
 use Rattle.std.proofs.Common.{◌≡◌, ◌≢◌, ◌∙◌, ◌⊎◌, ℕ, List, inl, inr, sym, ap, subst, nat_le, true}
+use Rattle.std.specs.Prelude.{string_bytes}
 use Rattle.std.specs.FinMap.{get}
 use Rattle.host_files.specs.HostState.{Files}
 use Rattle.host_runs.specs.Answer.{Answer}
@@ -19,7 +20,7 @@ versions_small image machine loops inputs out answer is =
     ap (λ (a : Answer). nat_le a.status 1) is.told ∙ ap (λ s. nat_le s 1) (behind_status is.text is.fitted) ∙ fit_small is.tried machine is.own inputs out is.fitted is.made
 
 -- a version is kept where the program is
-version_kept : (image loops : List ℕ) (chosen : ChosenVersion) → IsVersionFile image loops chosen.version chosen.loops.items → IsVersionKept image loops chosen.version.file.items chosen.loops.items
+version_kept : (image loops : List ℕ) (chosen : ChosenVersion) → IsVersionFile image loops chosen.version (string_bytes chosen.loops) → IsVersionKept image loops chosen.version.file.items (string_bytes chosen.loops)
 version_kept image loops chosen is = record {
   image = is.image;
   versioned = is.versioned;
@@ -33,7 +34,7 @@ version_kept image loops chosen is = record {
   file = is.made;
   olds_are = is.olds_are;
   notes_are = is.notes_are;
-  kept = λ levels input n status bytes kept exited. files_are_kept image loops chosen.loops.items chosen.version is levels input n status bytes kept exited;
+  kept = λ levels input n status bytes kept exited. files_are_kept image loops (string_bytes chosen.loops) chosen.version is levels input n status bytes kept exited;
 }
 
 abbrev IsGoingOn : (image loops tried own : List ℕ) → Type 0

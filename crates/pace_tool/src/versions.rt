@@ -61,7 +61,7 @@ fn version_reply<P: Progress>(
     let own = ProgramFiles {
         image: &chosen.version.file,
         machine: order.files.machine,
-        loops: &chosen.loops,
+        loops: chosen.loops.as_bytes(),
     };
     let reply = fit_reply(alloc, order.out, &own, &order.inputs, progress)?;
     told_behind(text, reply)

@@ -1,6 +1,6 @@
 -- What an image takes that is fitted with a draft of its loops as its loop file, for inputs of so many bytes at most, where that is told, or with one that is
 -- given, and when one of its versions is chosen.
-use Rattle.std.specs.Prelude.{◌≡◌, ℕ, ◌<◌, ◌≤◌, Bool, List, length, map, IfSome, Option, Some, None, Ok}
+use Rattle.std.specs.Prelude.{◌≡◌, ℕ, ◌<◌, ◌≤◌, Bool, List, length, map, string_bytes, IfSome, Option, Some, None, Ok}
 use Rattle.scale_base.specs.declared.limits.TheConstants.{FILE_LIMIT, IMAGE_LIMIT}
 use Rattle.gain_tuner.specs.Spending.{counts}
 use Rattle.loop_drafts.specs.declared.drafted.LoopDraft.{LoopDraft}
@@ -61,12 +61,12 @@ pub record IsVersionFit (plain machine : List ℕ) (most : Option ℕ) (given : 
 pub record IsChosenVersion (plain machine : List ℕ) (most : Option ℕ) (given : Option (List ℕ)) (inputs : List (List ℕ)) (chosen : ChosenVersion) : Type 0 where
   pub flags : List Bool
   pub without : IsPlainFit plain machine most given inputs flags chosen.without
-  pub fitted : IsVersionFit plain machine most given inputs chosen.version chosen.loops.items flags chosen.fitted
+  pub fitted : IsVersionFit plain machine most given inputs chosen.version (string_bytes chosen.loops) flags chosen.fitted
   pub less : chosen.fitted.energy < chosen.without.energy
 
 -- the least fit so far, of a program that takes so much itself
 pub record IsBest (plain machine : List ℕ) (most : Option ℕ) (given : Option (List ℕ)) (inputs : List (List ℕ)) (without : Fitted) (best : Best) : Type 0 where
   pub itself : IsPlainFit plain machine most given inputs best.fit.flags.items without
   pub least : best.fit.fitted.energy ≤ without.energy
-  pub chosen : IfSome best.version (λ tried. IsVersionFit plain machine most given inputs tried.version tried.loops.items best.fit.flags.items best.fit.fitted ×
+  pub chosen : IfSome best.version (λ tried. IsVersionFit plain machine most given inputs tried.version (string_bytes tried.loops) best.fit.flags.items best.fit.fitted ×
       (best.fit.fitted.energy < without.energy))

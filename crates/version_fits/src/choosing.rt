@@ -1,13 +1,13 @@
 //! The version by which a program takes less energy.
 
-ghost use Rattle.std.specs.Prelude.{◌≡◌, ◌<◌, ◌≤◌, length, true, IfOk, IfSome};
+ghost use Rattle.std.specs.Prelude.{◌≡◌, ◌<◌, ◌≤◌, length, true, None, IfOk, IfSome};
 ghost use Rattle.std.specs.List.{All};
 ghost use Rattle.versioned_images.specs.Versions.{IsVersionOf};
 ghost use Rattle.version_fits.specs.Goals.{IsBest, IsChosenVersion, IsLoopFile, IsPlainFit};
 
 use crate::fits::{Fit, VersionFit, fit_file, fit_version};
 use crate::goal::FitGoal;
-use crate::loop_files::plain_file;
+use crate::loop_files::drafted_file;
 use pace_fit::Fitted;
 use run_progress::Progress;
 use scale_base::{FILE_LIMIT, IMAGE_LIMIT, NoMemory};
@@ -18,7 +18,7 @@ use versioned_images::{Version, find_versions};
 #[derive(Drop)]
 pub struct ChosenVersion {
     pub version: Version,
-    pub loops: Vec<u8>,
+    pub loops: String,
     pub without: Fitted,
     pub fitted: Fitted,
 }
@@ -53,7 +53,7 @@ fn saves_enough(fit: &Fit, held: u128) -> bool {
 #[derive(Drop)]
 struct Tried {
     version: Version,
-    loops: Vec<u8>,
+    loops: String,
 }
 
 // The fit that is chosen so far, and the version that it is of, if it isn't that of the program itself.
@@ -173,6 +173,23 @@ fn choose_by<P: Progress>(
     }
 }
 
+// The same with a draft of its loop file.
+fn choose_drafted<P: Progress>(
+    alloc: Global,
+    goal: &FitGoal<'_>,
+    plain: &[u8],
+    progress: &mut P,
+) -> Result<Option<ChosenVersion>, NoMemory>
+    requires plain { length plain.now ≤ IMAGE_LIMIT }
+    requires none { goal.now.given ≡ None }
+    ensures { IfOk result (λ chosen. IfSome chosen (IsChosenVersion goal.now plain.now)) }
+{
+    match drafted_file(alloc, goal, plain, progress)? {
+        Some(file) => choose_by(alloc, goal, plain, file.as_bytes(), progress),
+        None => Ok(None),
+    }
+}
+
 /// A version by which a program takes less energy on the inputs that count, by more than a sixty-fourth, and 40 thousandths less than its image at one level:
 /// of those that are tried the last one of which this is so against all before it. None where no version takes so much less than the program itself, where a
 /// loop of it is open, or where something refuses it. Each is fitted with a loop file: the program with the one that is given, a version with one that is made
@@ -187,8 +204,8 @@ pub fn choose_version<P: Progress>(
     requires { length plain.now ≤ IMAGE_LIMIT }
     ensures { IfOk result (λ chosen. IfSome chosen (IsChosenVersion goal.now plain.now)) }
 {
-    match plain_file(alloc, goal, plain, progress)? {
-        Some(file) => choose_by(alloc, goal, plain, &file, progress),
-        None => Ok(None),
+    match goal.given {
+        Some(loops) => choose_by(alloc, goal, plain, loops, progress),
+        None => choose_drafted(alloc, goal, plain, progress),
     }
 }

@@ -1,6 +1,6 @@
 //! What an image takes that is fitted to inputs.
 
-ghost use Rattle.std.specs.Prelude.{◌≡◌, ◌≤◌, length, map, IfOk, IfSome};
+ghost use Rattle.std.specs.Prelude.{◌≡◌, ◌≤◌, length, map, string_bytes, IfOk, IfSome};
 ghost use Rattle.std.specs.List.{All};
 ghost use Rattle.pace_fit.specs.Finding.{IsPrepared};
 ghost use Rattle.versioned_images.specs.Versions.{IsVersionOf};
@@ -77,7 +77,7 @@ pub fn fit_file<P: Progress>(
 /// What a version takes, with a loop file of its own.
 #[derive(Drop)]
 pub struct VersionFit {
-    pub loops: Vec<u8>,
+    pub loops: String,
     pub fit: Fit,
 }
 
@@ -86,15 +86,15 @@ fn fit_with<P: Progress>(
     alloc: Global,
     goal: &FitGoal<'_>,
     image: &[u8],
-    loops: Vec<u8>,
+    loops: String,
     progress: &mut P,
 ) -> Result<Option<VersionFit>, NoMemory>
     requires image { length image.now ≤ IMAGE_LIMIT }
-    requires loops { length loops.items ≤ FILE_LIMIT }
-    ensures fit { IfOk result (λ made. IfSome made (λ made. IsFitBy goal.now image.now loops.items made.fit.flags.items made.fit.fitted)) }
+    requires loops { length (string_bytes loops) ≤ FILE_LIMIT }
+    ensures fit { IfOk result (λ made. IfSome made (λ made. IsFitBy goal.now image.now (string_bytes loops) made.fit.flags.items made.fit.fitted)) }
     ensures loops { IfOk result (λ made. IfSome made (λ made. made.loops ≡ loops)) }
 {
-    match fit_file(alloc, goal, image, &loops, progress)? {
+    match fit_file(alloc, goal, image, loops.as_bytes(), progress)? {
         Some(fit) => Ok(Some(VersionFit { loops, fit })),
         None => Ok(None),
     }
@@ -109,7 +109,7 @@ pub fn fit_version<P: Progress>(
     progress: &mut P,
 ) -> Result<Option<VersionFit>, NoMemory>
     requires { IsVersionOf plain.now version.now }
-    ensures { IfOk result (λ made. IfSome made (λ made. IsVersionFit goal.now plain.now version.now made.loops.items made.fit.flags.items
+    ensures { IfOk result (λ made. IfSome made (λ made. IsVersionFit goal.now plain.now version.now (string_bytes made.loops) made.fit.flags.items
         made.fit.fitted)) }
 {
     if version.file.len() > IMAGE_LIMIT {
