@@ -11,7 +11,7 @@ import time
 import unittest
 from pathlib import Path
 
-BUILD = Path(__file__).resolve().parent.parent / "tools" / "build.py"
+TOOLS = Path(__file__).resolve().parent.parent / "tools"
 # The tool stands over a pair of crates over the lowest; nothing of it needs the crate beside. (A crate may stand above those that it uses.)
 LIST = """# The lowest
 low:
@@ -86,6 +86,40 @@ if verb == "run":
     sys.exit(subprocess.call([f"out/{name}"]))
 """
 
+# A kit whose `rt` sums the sources of the crate in this folder twice, and prints whose sources were read, and what is below.
+KIT = """import os, sys, types
+sys.path.insert(0, os.path.dirname(os.path.realpath(__file__)))
+import rtlib
+
+def main(words):
+    low = rtlib.Crate("low")
+    left, right = rtlib.Crate("left", low), rtlib.Crate("right", low)
+    top = rtlib.Crate("top", left, right)
+    sums = {top.stamp(), top.stamp()}
+    print(*words, len(sums), *rtlib.read, *(it.name for it in top.below()))
+    return 3
+
+if __name__ == "__main__":
+    sys.exit(main(sys.argv[1:]))
+"""
+KIT_LIBRARY = """import os
+read = []
+
+class Crate:
+    def __init__(self, name, *deps):
+        self.name, self.deps, self.folder = name, deps, os.path.join(os.path.dirname(os.getcwd()), name)
+
+    def stamp(self):
+        read.append(self.name)
+        return " ".join([self.name, *(it.stamp() for it in self.deps)])
+
+    def below(self):
+        found = []
+        for dep in self.deps:
+            found += [it for it in [*dep.below(), dep] if it not in found]
+        return found
+"""
+
 
 def has_ended(number):
     """Whether a process has ended, also where nothing has asked for its status yet."""
@@ -103,7 +137,8 @@ class Builds(unittest.TestCase):
         self.top, self.events, self.bin = (self.room / it for it in ("top", "events", "bin"))
         for folder in (self.top / ".git", self.top / "tools", self.bin):
             folder.mkdir(parents=True)
-        (self.top / "tools" / "build.py").write_bytes(BUILD.read_bytes())
+        for script in ("build.py", "rt_once.py"):
+            (self.top / "tools" / script).write_bytes((TOOLS / script).read_bytes())
         (self.top / "crates.txt").write_text(LIST)
         for crate in ("low", "top", "left", "right", "beside", "tool"):
             self.write(crate, f"as {crate} was")
@@ -268,6 +303,20 @@ class Builds(unittest.TestCase):
         again = len(events) - 1 - events[::-1].index("begin left")
         self.assertLess(events.index("end right"), again)
         self.assertEqual("end left", events[again + 1])
+
+    def test_sums_are_taken_once(self):
+        kit = self.room / "kit"
+        kit.mkdir()
+        (kit / "rt").write_text("#!/usr/bin/env python3\n" + KIT)
+        (kit / "rt").chmod(0o755)
+        (kit / "rtlib.py").write_text(KIT_LIBRARY)
+        (self.bin / "rt").unlink()
+        (self.bin / "rt").symlink_to(kit / "rt")
+        how = {"cwd": self.top / "crates" / "top", "env": self.path, "capture_output": True, "text": True}
+        plain = subprocess.run(["rt", "lib"], **how)
+        self.assertEqual((3, "lib 1 top left low right low top left low right low low left right\n"), (plain.returncode, plain.stdout))
+        once = subprocess.run([sys.executable, "-B", self.top / "tools" / "rt_once.py", "lib"], **how)
+        self.assertEqual((3, "lib 1 top left low right top low left right\n"), (once.returncode, once.stdout))
 
     def test_without_rt(self):
         (self.bin / "rt").unlink()

@@ -26,6 +26,8 @@ from dataclasses import dataclass
 from typing import Optional
 
 TOP = os.path.dirname(os.path.dirname(os.path.abspath(__file__)))
+# `rt`, which sums each crate once.
+RT = (sys.executable, "-B", os.path.join(TOP, "tools", "rt_once.py"))
 # What a crate is proved from.
 PARTS = ("src", "specs", "proofs")
 BROKEN, MISUSED = 70, 64
@@ -302,7 +304,7 @@ class Build:
             # (so that what is there in the end is what was made)
             with contextlib.suppress(FileNotFoundError):
                 os.remove(self.lanes.path(lane, crate, "out", crate))
-        words = ["rt", "run" if crate == self.program else "lib", "--jobs", str(jobs)]
+        words = [*RT, "run" if crate == self.program else "lib", "--jobs", str(jobs)]
         with open(self.lanes.path(lane, crate, "out", "build.log"), "w", encoding="utf-8") as log:
             how = {"stdin": subprocess.DEVNULL, "stdout": log, "stderr": subprocess.STDOUT}
             how.update(cwd=self.lanes.path(lane, crate), start_new_session=True, preexec_fn=lambda: begin(nice))

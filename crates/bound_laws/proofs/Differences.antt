@@ -1,13 +1,13 @@
 -- What a comparison says of a difference of its registers.
-use Rattle.std.proofs.Common.{◌≡◌, ℕ, ◌+◌, ◌-◌, ◌*◌, ◌/◌, ◌<◌, ◌≤◌, ◌%◌, ◌^◌, Bool, true, false, List, sym, ap, ◌∙◌, subst, arith, Option, Some, None}
-use Rattle.std.specs.Prelude.{◌==◌, ◌&&◌, not, int_lt, nat_lt, min, max, option_map}
+use Rattle.std.proofs.Common.{◌≡◌, ℕ, ◌+◌, ◌-◌, ◌*◌, ◌<◌, ◌≤◌, ◌%◌, ◌^◌, true, List, sym, ap, ◌∙◌, subst, arith, Option, Some, None}
+use Rattle.std.specs.Prelude.{◌==◌, ◌&&◌, int_lt, nat_lt, min, max, option_map}
 use Rattle.std.proofs.lemmas.Bool.{cond_both, and_parts, eqb-true, ltb-true, ltb-false, not-true}
 use Rattle.scale_base.specs.declared.instruction.BranchOp.{BranchOp}
 use Rattle.scale_base.specs.declared.instruction.BranchOp.TheVariants.{Beq, Bne, Blt, Bge, Bltu, Bgeu}
 use Rattle.scale_base.specs.Arith.{plus, signed, is_taken}
 use Rattle.scale_base.specs.State.{reg}
 use Rattle.bound_laws.specs.Registers.{Measure, measured}
-use Rattle.bound_laws.specs.Values.{Arc, IsIn, IsHeld, arc, held, negated, sum_with, Said, Interval, between, biased, view, first_range, second_range, differences, ordered, of_differences, difference_by, is_minus, compared}
+use Rattle.bound_laws.specs.Values.{Arc, IsIn, IsHeld, held, negated, sum_with, Said, Interval, between, biased, view, first_range, second_range, differences, ordered, of_differences, difference_by, is_minus, compared}
 use Rattle.bound_laws.proofs.Arcs.{in_arc, in_word, sum_with_in, negated_in, IsBetween}
 use Rattle.bound_laws.proofs.Transfers.{seen, seen_in, signed_order, first_between, second_between}
 

@@ -1,19 +1,18 @@
 -- The laws of loop bounds, as statements for the contracts of functions.
-use Rattle.std.specs.Prelude.{◌≡◌, ℕ, ◌+◌, ◌*◌, ◌%◌, ◌^◌, ◌<◌, ◌≤◌, ◌⊎◌, true, All, replicate, slice_set, List, length, Some, None, Ok}
+use Rattle.std.specs.Prelude.{◌≡◌, ℕ, ◌+◌, ◌*◌, ◌%◌, ◌^◌, ◌<◌, ◌≤◌, ◌⊎◌, true, replicate, slice_set, List, length, Some}
 use Rattle.scale_base.specs.declared.instruction.Instr.{Instr}
 use Rattle.scale_base.specs.declared.stepping.Stepped.{Stepped}
 use Rattle.scale_base.specs.declared.stepping.StepEnd.TheVariants.{Went}
 use Rattle.scale_base.specs.Reading.{instr_of}
 use Rattle.scale_base.specs.State.{Setting, State, reg, word_at}
 use Rattle.scale_base.specs.Step.{step}
-use Rattle.scale_base.specs.Image.{Image, image_of}
-use Rattle.scale_base.specs.Run.{GoesOn, run, run_of, STACK_POINTER}
+use Rattle.scale_base.specs.Run.{run, STACK_POINTER}
 use Rattle.cost_theory.specs.Graph.{Loops}
 use Rattle.cost_theory.specs.Reached.{Code}
-use Rattle.code_text.specs.Text.{Text, text_of}
+use Rattle.code_text.specs.Text.{Text}
 use Rattle.code_text.specs.TextGraph.{text_graph, IsReachedCode}
 use Rattle.graph_runs.specs.KeptSteps.{Carried}
-use Rattle.graph_runs.specs.KeptRuns.{kept_at, most_returns, IsKeptUpTo}
+use Rattle.graph_runs.specs.KeptRuns.{kept_at}
 use Rattle.graph_runs.specs.RunTransitions.{returns_so}
 use Rattle.graph_runs.specs.Laws.{IsStartOver}
 use Rattle.bound_laws.specs.Registers.{Measure, measured, keeps, effect}

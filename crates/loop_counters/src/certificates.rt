@@ -25,8 +25,13 @@ use wrapped_intervals::Measure;
 /// Bounds from here on say nothing.
 const NO_BOUND: u32 = 0x8000_0000;
 
-/// Where a counter has such a bound, it is looked at what else turns do: that of a pointer may be the size of its segment.
-const WIDE: u32 = 16;
+/// Where a certificate has such a bound, a walk through memory is looked at, too.
+const FAR: u32 = 1024;
+
+/// A walk of such a bound is worth no more than a counter, but one of so many turns, which no file may have.
+const FARTHEST: u32 = 16_384;
+
+const MOST_TURNS: u32 = 1_000_000_000;
 
 /// How many nodes and edges are looked at for walks of all loops together.
 const WALK_WORK: u64 = 50_000_000;
@@ -215,11 +220,6 @@ fn certificate_by(alloc: Global, table: TurnTable) -> StackCertificate {
     }
 }
 
-// How many turns there may be, by what each turn does.
-fn bound_by(table: &TurnTable) -> u32 {
-    table.width.checked_div(table.least).unwrap_or(u32::MAX)
-}
-
 // What is counted in, by what each turn does.
 fn counter_by(table: &TurnTable) -> StackCounter {
     let (factor, shift) = match table.kind {
@@ -243,11 +243,11 @@ fn counter_by(table: &TurnTable) -> StackCounter {
     }
 }
 
-// Whether there is a counter whose bound is less than a number.
-fn is_within(counter: &Option<Choice>, number: u32) -> bool {
+// The bound of a counter.
+fn bound_of(counter: &Option<Choice>) -> Option<u32> {
     match counter {
-        Some(choice) => choice.limits.bound() < number,
-        None => false,
+        Some(choice) => Some(choice.limits.bound()),
+        None => None,
     }
 }
 
@@ -260,10 +260,8 @@ fn counted(
     let register = choose_register(alloc, scope)?;
     let place = choose_word(alloc, scope, register)?;
     let counter = choose_sum(alloc, scope, place)?;
-    if let Some(table) = find_turns(alloc, scope, most, !is_within(&counter, WIDE))? {
-        if !is_within(&counter, bound_by(&table).saturating_add(1)) {
-            return Ok(Some(certificate_by(alloc, table)));
-        }
+    if let Some(table) = find_turns(alloc, scope, most, bound_of(&counter))? {
+        return Ok(Some(certificate_by(alloc, table)));
     }
     match counter {
         Some(choice) if choice.limits.bound() < NO_BOUND => {
@@ -330,13 +328,52 @@ fn by_walk(alloc: Global, scope: &Scope<'_>) -> Result<Option<StackCertificate>,
     }
 }
 
+// How many turns a certificate shows at most.
+fn turns_shown(certificate: &StackCertificate) -> u32 {
+    certificate
+        .width
+        .checked_div(certificate.least)
+        .unwrap_or(u32::MAX)
+}
+
+// Whether a certificate is found whose bound is less than those from which on walks are looked at.
+fn is_near(found: &Option<StackCertificate>) -> bool {
+    match found {
+        Some(certificate) => turns_shown(certificate) < FAR,
+        None => false,
+    }
+}
+
+// Whether a walk's bound is worth more than a counter's.
+fn is_nearer(walk: u32, counter: u32) -> bool {
+    walk < counter && (walk < FARTHEST || counter >= MOST_TURNS)
+}
+
+// A certificate by a counter, or one by a walk, where that is worth more.
+fn nearer(
+    found: Option<StackCertificate>,
+    walk: Option<StackCertificate>,
+) -> Option<StackCertificate> {
+    match (found, walk) {
+        (Some(one), Some(other)) => {
+            if is_nearer(turns_shown(&other), turns_shown(&one)) {
+                Some(other)
+            } else {
+                Some(one)
+            }
+        }
+        (None, walk) => walk,
+        (found, None) => found,
+    }
+}
+
 /// How many loops of a graph are looked at, where so many nodes and edges are for all of them together.
 pub fn loops_within(graph: &CodeGraph, work: u64) -> usize {
     let size = graph.node_count().saturating_add(graph.edge_count()).max(1);
     (work / size as u64) as usize
 }
 
-/// A certificate of loop `k` of a program, of the least bound that is found; where there is none, or one that says nothing, one by a walk.
+/// A certificate of loop `k` of a program, of the least bound that is found, by a counter, or by a walk where that has none or a far one.
 pub fn find_certificate(
     alloc: Global,
     claim: &StackClaim<'_>,
@@ -355,8 +392,8 @@ pub fn find_certificate(
         return Ok(Some(unturned(alloc, &scope)?));
     }
     let found = counted(alloc, &scope, most)?;
-    if found.is_some() || k >= loops_within(claim.graph, WALK_WORK) {
+    if is_near(&found) || k >= loops_within(claim.graph, WALK_WORK) {
         return Ok(found);
     }
-    by_walk(alloc, &scope)
+    Ok(nearer(found, by_walk(alloc, &scope)?))
 }

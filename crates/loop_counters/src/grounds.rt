@@ -27,37 +27,52 @@ fn ends_of(arc: &Arc) -> Option<(u32, u32)> {
     Some((low, low.checked_add(more)?))
 }
 
+// The two parts of a place, by their ends: up to the last word and from 0 on, where it wraps, and else the same. All words, where no place is known.
+fn parts_of(place: &Option<Arc>) -> Option<[(u32, u32); 2]> {
+    let Some(place) = place else {
+        return Some([(0, u32::MAX); 2]);
+    };
+    let low = u32::try_from(place.low()).ok()?;
+    let last = low.wrapping_add(u32::try_from(place.more()).ok()?);
+    if low <= last {
+        Some([(low, last); 2])
+    } else {
+        Some([(low, u32::MAX), (0, last)])
+    }
+}
+
 // What both have in common, by their ends.
-fn common(one: (u32, u32), other: (u32, u32)) -> Option<(u32, u32)> {
+fn meet(one: (u32, u32), other: (u32, u32)) -> Option<(u32, u32)> {
     let (low, last) = (one.0.max(other.0), one.1.min(other.1));
     if low <= last { Some((low, last)) } else { None }
 }
 
-// The ends of what each area has in common with a place, in order. None where one of them wraps.
+// What an area has in common with both parts, and what is between.
+fn common(area: (u32, u32), parts: &[(u32, u32); 2]) -> Option<(u32, u32)> {
+    match (meet(area, parts[0]), meet(area, parts[1])) {
+        (Some(one), Some(other)) => Some((one.0.min(other.0), one.1.max(other.1))),
+        (None, other) => other,
+        (one, None) => one,
+    }
+}
+
+// The ends of what each area has in common with a place, in order. None where an area wraps.
 fn sorted_ends(
     alloc: Global,
     areas: &[Arc],
-    place: (u32, u32),
+    parts: &[(u32, u32); 2],
 ) -> Result<Option<Vec<(u32, u32)>>, NoMemory> {
     let mut all = Vec::new(alloc);
     for area in areas {
         let Some(ends) = ends_of(area) else {
             return Ok(None);
         };
-        if let Some(ends) = common(ends, place) {
+        if let Some(ends) = common(ends, parts) {
             all.push(ends)?;
         }
     }
     all.sort()?;
     Ok(Some(all))
-}
-
-// The ends of a place, which is all words where none is known.
-fn ends_of_place(place: &Option<Arc>) -> Option<(u32, u32)> {
-    match place {
-        Some(place) => ends_of(place),
-        None => Some((0, u32::MAX)),
-    }
 }
 
 impl Ground {
@@ -87,10 +102,10 @@ pub fn ground_of(
     place: Option<Arc>,
     gap: u32,
 ) -> Result<Option<Ground>, NoMemory> {
-    let Some(ends) = ends_of_place(&place) else {
+    let Some(parts) = parts_of(&place) else {
         return Ok(None);
     };
-    let Some(all) = sorted_ends(alloc, areas, ends)? else {
+    let Some(all) = sorted_ends(alloc, areas, &parts)? else {
         return Ok(None);
     };
     let Some(begun) = all.first().copied() else {

@@ -24,6 +24,9 @@ const LAST_PASSES: usize = 2;
 /// Bounds from here on say nothing.
 const NO_BOUND: u32 = 0x8000_0000;
 
+/// Where a counter has such a bound, it is looked at what else turns do: that of a pointer may be the size of its segment.
+const WIDE: u32 = 16;
+
 /// What is known at the nodes of a loop, in the order of its nodes, by one place; and what is so of the place at the end of its turns.
 #[derive(Drop)]
 struct Flow {
@@ -524,22 +527,31 @@ fn best_place(
     Ok(best)
 }
 
+// Whether there is a counter whose bound is less than a number.
+fn is_within(counter: Option<u32>, number: u32) -> bool {
+    match counter {
+        Some(bound) => bound < number,
+        None => false,
+    }
+}
+
 /// A table of a loop's turns, of the least bound that is found: by what is left of the input, if it has so many bytes at most, and by the
-/// registers and words that the loop writes, where those are wanted.
+/// registers and words that the loop writes, where a counter's bound is wide or there is none. None where the counter's bound is as low: a table has a row for
+/// each node of the program, so that it isn't made in vain.
 pub fn find_turns(
     alloc: Global,
     scope: &Scope<'_>,
     most: Option<u32>,
-    all: bool,
+    counter: Option<u32>,
 ) -> Result<Option<TurnTable>, NoMemory> {
     if scope.nodes.len() > MOST_NODES {
         return Ok(None);
     }
     let numbers = Numbers::new(alloc, scope)?;
-    let mut best = if all {
-        best_place(alloc, scope, &numbers)?
-    } else {
+    let mut best = if is_within(counter, WIDE) {
         None
+    } else {
+        best_place(alloc, scope, &numbers)?
     };
     if let Some(most) = most {
         if has_reads(scope) {
@@ -547,7 +559,9 @@ pub fn find_turns(
         }
     }
     match best {
-        Some(found) => table_of(alloc, scope, &numbers, found),
-        None => Ok(None),
+        Some(found) if !is_within(counter, found.measured.bound().saturating_add(1)) => {
+            table_of(alloc, scope, &numbers, found)
+        }
+        _ => Ok(None),
     }
 }

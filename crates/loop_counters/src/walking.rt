@@ -280,7 +280,7 @@ impl<'a> Look<'a> {
         }
     }
 
-    /// An interval that holds the addresses of the first accesses of all turns, where they are known and it doesn't wrap.
+    /// An interval that holds the addresses of the first accesses of all turns, where they are known.
     pub fn reach(&self, walk: &Walk) -> Option<Arc> {
         let mut all: Option<Option<Value>> = None;
         for k in self.scope.nodes {
@@ -293,7 +293,6 @@ impl<'a> Look<'a> {
             }
         }
         let reach = all??;
-        reach.low.checked_add(reach.more)?;
         Some(Arc::of(u64::from(reach.low), u64::from(reach.more)))
     }
 

@@ -7,7 +7,7 @@ use crate::candidates::candidates_of;
 use crate::ends::{Ends, ends_of};
 use crate::limits::{first_of, last_of};
 use crate::noted::noted;
-use crate::turns::{Added, Turns, turns_of};
+use crate::turns::{Added, Behind, Turns, turns_of};
 use loop_file::LoopNote;
 use lower_bounds::{Counter, LowerTable, is_lower_shown};
 use scale_base::NoMemory;
@@ -57,24 +57,6 @@ fn turns_at_least(first: u32, most: u32, last: u64, bound: u32) -> u32 {
     }
 }
 
-// What has been added at most behind each node.
-fn behind_of(alloc: Global, turns: &Turns, adds: &[u32]) -> Result<Vec<u64>, NoMemory> {
-    let mut behind = Vec::new(alloc);
-    for (added, more) in turns.added.iter().zip(adds) {
-        behind.push(u64::from(*added).saturating_add(u64::from(*more)))?;
-    }
-    Ok(behind)
-}
-
-// A copy of flags.
-fn copied(alloc: Global, flags: &[bool]) -> Result<Vec<bool>, NoMemory> {
-    let mut copy = Vec::new(alloc);
-    for flag in flags {
-        copy.push(*flag)?;
-    }
-    Ok(copy)
-}
-
 // What the nodes of a loop add, and what its turns add by that.
 #[derive(Drop)]
 struct AddedTurns {
@@ -94,10 +76,13 @@ impl CountedLoop<'_> {
         requires { IsStackClaim claim.now }
     {
         let AddedTurns { adds, turns } = added;
-        let behind = behind_of(alloc, &turns, &adds)?;
+        let behind = Behind {
+            added: &turns.added,
+            adds: &adds,
+        };
         let (Some(first), Some(last)) = (
             first_of(claim, ends, self.counter),
-            last_of(claim, ends, self.counter, &behind),
+            last_of(claim, ends, self.counter, behind),
         ) else {
             return Ok(None);
         };
@@ -108,10 +93,10 @@ impl CountedLoop<'_> {
                 counter: self.counter,
                 first,
                 most: turns.most,
-                body: copied(alloc, self.body)?,
+                body: Vec::from_slice(alloc, self.body)?,
                 adds,
                 added: turns.added,
-                quiet: copied(alloc, self.quiet)?,
+                quiet: Vec::from_slice(alloc, self.quiet)?,
             },
         }))
     }

@@ -5,6 +5,7 @@ ghost use Rattle.stack_tables.specs.Tables.{IsStackClaim};
 ghost use Rattle.lower_bounds.specs.LowerTables.{IsStep};
 
 use crate::ends::Ends;
+use crate::turns::Behind;
 use lower_bounds::{Counter, Step, is_counted_in};
 use stack_tables::StackClaim;
 use wrapped_intervals::Arc;
@@ -94,19 +95,24 @@ pub fn first_of(claim: &StackClaim<'_>, ends: &Ends, counter: Counter) -> Option
 }
 
 // By how much it has more behind a step than what has been added.
-fn more_behind(claim: &StackClaim<'_>, step: Step, counter: Counter, behind: &[u64]) -> u64
+fn more_behind(claim: &StackClaim<'_>, step: Step, counter: Counter, behind: Behind<'_>) -> u64
     requires { IsStackClaim claim.now }
 {
-    match behind.get(step.from) {
+    match behind.at(step.from) {
         Some(added) if is_there(claim, step) => {
-            u64::from(least_behind(claim, step, counter)).saturating_sub(*added)
+            u64::from(least_behind(claim, step, counter)).saturating_sub(added)
         }
         _ => 0,
     }
 }
 
 /// By how much it has more at least, where the loop is left, than what the last turn has added. None where it is never left.
-pub fn last_of(claim: &StackClaim<'_>, ends: &Ends, counter: Counter, behind: &[u64]) -> Option<u64>
+pub fn last_of(
+    claim: &StackClaim<'_>,
+    ends: &Ends,
+    counter: Counter,
+    behind: Behind<'_>,
+) -> Option<u64>
     requires { IsStackClaim claim.now }
 {
     let mut last = None;

@@ -37,6 +37,23 @@ pub struct Added<'a> {
     pub adds: &'a [u32],
 }
 
+/// What has been added at most before each node of a loop, and what the node adds.
+#[derive(Clone, Copy)]
+pub struct Behind<'a> {
+    pub added: &'a [u32],
+    pub adds: &'a [u32],
+}
+
+impl Behind<'_> {
+    /// What has been added at most behind node k.
+    pub fn at(&self, k: usize) -> Option<u64> {
+        match (self.added.get(k), self.adds.get(k)) {
+            (Some(added), Some(more)) => Some(u64::from(*added).saturating_add(u64::from(*more))),
+            _ => None,
+        }
+    }
+}
+
 impl Added<'_> {
     fn has(&self, k: usize) -> bool {
         self.body.get(k).copied().unwrap_or(false)

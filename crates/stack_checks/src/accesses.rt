@@ -50,17 +50,50 @@ fn is_disjoint(i: Arc, area: Arc) -> bool
     i.more() < distance && distance + area.more() < WORDS
 }
 
-// What an interval and the first area that isn't disjoint from it have in common.
-fn first_common(areas: &[Arc], i: Arc) -> Option<Arc>
+// From the first number of two parts of an interval to the last one, in its order, with its stride where both are on it.
+fn both_along(i: Arc, one: Arc, other: Arc) -> Arc
+    requires i { IsKept i }
+    requires one { IsKept one }
+    requires other { IsKept other }
+{
+    let (first, second) = (ahead(i.low(), one.low()), ahead(i.low(), other.low()));
+    let stride = i.stride().max(1);
+    let is_strided = first % stride == 0 && second % stride == 0;
+    let begin = first.min(second);
+    let end = (first + one.more()).max(second + other.more());
+    Arc::strided(
+        (i.low() + begin) % WORDS,
+        end.saturating_sub(begin),
+        if is_strided { stride } else { 1 },
+    )
+}
+
+// The parts of an interval so far, and one more.
+fn with_part(i: Arc, parts: Option<Arc>, part: Option<Arc>) -> Option<Arc>
+    requires { IsKept i }
+{
+    let (Some(one), Some(other)) = (parts, part) else {
+        return parts.or(part);
+    };
+    if is_kept(Some(one)) && is_kept(Some(other)) {
+        Some(both_along(i, one, other))
+    } else {
+        None
+    }
+}
+
+// What an interval and the areas have in common, from the first of it to the last one.
+fn all_common(areas: &[Arc], i: Arc) -> Option<Arc>
     requires areas { All IsKept areas.now }
     requires i { IsKept i }
 {
+    let mut all = None;
     for area in areas {
         if !is_disjoint(i, *area) {
-            return meet_of(Some(i), Some(*area));
+            all = with_part(i, all, meet_of(Some(i), Some(*area)));
         }
     }
-    None
+    all
 }
 
 // Whether an area has nothing in common with an interval, or no more than another interval holds.
@@ -88,14 +121,14 @@ fn are_cut(areas: &[Arc], i: Arc, to: Arc) -> bool
     true
 }
 
-// An interval that holds what an interval and the areas have in common, where that is in one of them.
+// An interval that holds what an interval and the areas have in common.
 fn cut(areas: &[Arc], i: Arc) -> Option<Arc>
     requires areas { All IsKept areas.now }
     requires i { IsKept i }
     ensures cut { IfSome result (λ to. AreCutTo areas.now (Some i) to) }
     ensures kept { IsKeptOr result }
 {
-    match first_common(areas, i) {
+    match all_common(areas, i) {
         Some(to) => {
             if is_kept(Some(to)) && are_cut(areas, i, to) {
                 Some(to)

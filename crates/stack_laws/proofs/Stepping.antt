@@ -6,22 +6,20 @@ use Rattle.scale_base.specs.declared.instruction.LoadOp.{LoadOp}
 use Rattle.scale_base.specs.declared.instruction.LoadOp.TheVariants.{Lb, Lh, Lw, Lbu, Lhu}
 use Rattle.scale_base.specs.declared.instruction.StoreOp.{StoreOp}
 use Rattle.scale_base.specs.declared.instruction.StoreOp.TheVariants.{Sb, Sh, Sw}
-use Rattle.scale_base.specs.declared.instruction.ImmOp.{ImmOp}
-use Rattle.scale_base.specs.declared.instruction.RegOp.{RegOp}
 use Rattle.scale_base.specs.declared.instruction.Instr.{Instr}
 use Rattle.scale_base.specs.declared.instruction.Instr.TheVariants.{Lui, Auipc, Jal, Jalr, Branch, Load, Store, Imm, Reg, Fence, Ecall, Ebreak}
 use Rattle.scale_base.specs.declared.stepping.Stepped.{Stepped}
 use Rattle.scale_base.specs.declared.stepping.StepEnd.TheVariants.{Went}
 use Rattle.scale_base.specs.Reading.{instr_of}
 use Rattle.scale_base.specs.Layout.{can_read, uses_window}
-use Rattle.scale_base.specs.Arith.{plus, moved_by, unsigned, is_taken, load_width, store_width, imm_result, reg_result}
+use Rattle.scale_base.specs.Arith.{plus, moved_by, unsigned, is_taken, load_width, store_width}
 use Rattle.scale_base.specs.State.{Setting, State, reg, word_at}
 use Rattle.scale_base.specs.Step.{Outcome, loads, jumps, branches, performs, step}
 use Rattle.bound_laws.specs.Values.{Arc, strided, IsHeld, sum_with, top_of, held, IsRegister, Values}
 use Rattle.bound_laws.specs.Registers.{keeps}
 use Rattle.bound_laws.proofs.Laws.{sum_with_in, below_top, held_of, step_of}
 use Rattle.stack_laws.specs.Stacks.{known_sum, span_of, IsSpanned, stored_span, most_stored, AreBelow, Stacks, View, view_of, word_address, IsNamed, name_of, offset_of, stored_at, loaded_at, width_stored, word_stored, word_loaded, IsStoredFrom, IsLoadedTo, IsApart, AreApart, HasNot, IsFar, IsMissed, IsBelow, IsSparing, AreTold}
-use Rattle.stack_laws.proofs.Stores.{AreOut, AreSame, word_same, apart_out, stores_keep, served_keeps, stores_put, loads_get, put}
+use Rattle.stack_laws.proofs.Stores.{AreOut, AreSame, word_same, apart_out, stores_keep, served_keeps, stores_put, loads_get}
 use Rattle.stack_laws.proofs.Naming.{held_small, span_sum, places_apart, span_apart, span_below, plus_small, are_apart, apart_small, less_apart, has_not, is_below, offset_small, offset_is}
 
 module _ (env : Setting) (keyless : env.layout.keyed ≡ None) (v : Values) (w : Stacks) (offsets : (k : ℕ) → w.offset k < 2 ^ 32) (s : State) (zero_is : reg s.regs 0 ≡ 0) (size : length s.regs ≡ 32) (begun : List ℕ)
@@ -240,6 +238,7 @@ module _ (env : Setting) (keyless : env.layout.keyed ≡ None) (v : Values) (w :
     pub gets : (k r : ℕ) → IsRegister r → IsLoadedTo w s.pc i k r → reg after.regs r ≡ word_at s.bytes (word_address w begun k)
     gets k r is h = step_of (λ o. o.end ≡ Went x → reg o.state.regs r ≡ word_at s.bytes (word_address w begun k)) env s i here
         (λ end. loaded_as k r is i h.0 h.1 end) (λ end. let bad : ⊥ = cc in absurd bad) went
+
 -- a load stores nothing, and a store changes no register
 pub load_far : (v : Values) (a : ℕ) (y : Option Arc) (i : Instr) (r : ℕ) → word_loaded i ≡ Some r → IsFar v a i y
 load_far v a y (Load Lw rd rs1 offset) r e = tt

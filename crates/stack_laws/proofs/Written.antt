@@ -1,7 +1,6 @@
 -- What an operation with a number or a register puts into its register.
-use Rattle.std.proofs.Common.{◌≡◌, ℕ, ◌<◌, List, length, ap, ◌∙◌, subst, sym, arith, get_or-set_same, Some}
+use Rattle.std.proofs.Common.{◌≡◌, ℕ, length, subst, sym, Some}
 use Rattle.std.specs.Prelude.{ℤ}
-use Rattle.std.proofs.lemmas.Bool.{cond-false, ne_eqb}
 use Rattle.scale_base.specs.declared.instruction.ImmOp.{ImmOp}
 use Rattle.scale_base.specs.declared.instruction.RegOp.{RegOp}
 use Rattle.scale_base.specs.declared.instruction.Instr.{Instr}
@@ -10,7 +9,7 @@ use Rattle.scale_base.specs.declared.stepping.Stepped.{Stepped}
 use Rattle.scale_base.specs.declared.stepping.StepEnd.TheVariants.{Went}
 use Rattle.scale_base.specs.Reading.{instr_of}
 use Rattle.scale_base.specs.Arith.{imm_result, reg_result}
-use Rattle.scale_base.specs.State.{Setting, State, reg, with_reg, word_at}
+use Rattle.scale_base.specs.State.{Setting, State, reg, word_at}
 use Rattle.scale_base.specs.Step.{performs, step}
 use Rattle.bound_laws.specs.Values.{IsRegister}
 use Rattle.bound_laws.proofs.Laws.{step_of}

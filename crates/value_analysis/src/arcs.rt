@@ -9,6 +9,14 @@ use wrapped_intervals::{Arc, covers, word};
 /// How many words there are.
 pub const WORDS: u64 = 4_294_967_296;
 
+/// The first address of the stack, and the one behind it.
+pub const STACK_START: u64 = 0x7FFC_0000;
+
+const STACK_END: u64 = 0x8000_0000;
+
+/// Numbers from here on may be addresses.
+const LEAST_ADDRESS: u64 = 0x1000;
+
 /// How far a threshold may be from the end of an interval that grows to it.
 const FAR: u64 = 2_147_483_648;
 
@@ -148,10 +156,29 @@ fn both_from(low: u64, a: Arc, b: Arc) -> Option<Arc> {
     Some(Arc::strided(low, more, stride))
 }
 
-/// An interval that holds both. Nothing is known where nothing is of one.
+// Whether an interval is of addresses near the end of the stack, and the other one of addresses below the stack: there is more of the stack before these than
+// behind them.
+fn is_above(stack: Arc, other: Arc) -> bool {
+    let end = stack.low().saturating_add(stack.more());
+    STACK_START <= stack.low()
+        && stack.low() < STACK_END - 16
+        && end <= STACK_END
+        && LEAST_ADDRESS <= other.low()
+        && other.low().saturating_add(other.more()) < STACK_START
+}
+
+/// An interval that holds both: the shorter one of two, or the one that goes from the stack on round to other addresses. Nothing is known where nothing is of one.
 pub fn joined(a: Option<Arc>, b: Option<Arc>) -> Option<Arc> {
     match (a, b) {
-        (Some(i), Some(j)) => shorter(both_from(i.low(), i, j), both_from(j.low(), i, j)),
+        (Some(i), Some(j)) => {
+            if is_above(i, j) {
+                both_from(i.low(), i, j)
+            } else if is_above(j, i) {
+                both_from(j.low(), i, j)
+            } else {
+                shorter(both_from(i.low(), i, j), both_from(j.low(), i, j))
+            }
+        }
         _ => None,
     }
 }

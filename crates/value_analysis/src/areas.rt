@@ -3,7 +3,7 @@
 ghost use Rattle.std.specs.Prelude.{◌<◌};
 
 use crate::apart::raised;
-use crate::arcs::{WORDS, ahead};
+use crate::arcs::{STACK_START, WORDS, ahead};
 use crate::rows::within;
 use crate::stores::arc_of;
 use crate::tables::Row;
@@ -14,9 +14,7 @@ use stack_tables::MOST_AREAS;
 use std::alloc::Global;
 use wrapped_intervals::Arc;
 
-/// The first address of the stack, and how many there are behind it.
-const STACK_START: u64 = 0x7FFC_0000;
-
+/// How many addresses of the stack there are behind its first one.
 const STACK_MORE: u64 = 0x3_FFFF;
 
 /// A register by which an instruction loads or stores, and how far from there.
@@ -77,18 +75,57 @@ fn is_apart(arc: Arc, area: Arc) -> bool {
     arc.more() < distance && distance.saturating_add(area.more()) < WORDS
 }
 
-// The one area of which an interval has something.
-fn area_met(areas: &[Arc], arc: Arc) -> Option<Arc> {
-    let mut met = None;
+// From the first number of two parts of an interval to the last one, in its order, with its stride where both are on it.
+fn both_along(i: Arc, one: Arc, other: Arc) -> Arc {
+    let (first, second) = (ahead(i.low(), one.low()), ahead(i.low(), other.low()));
+    let stride = i.stride().max(1);
+    let is_strided = first % stride == 0 && second % stride == 0;
+    let begin = first.min(second);
+    let end = first
+        .saturating_add(one.more())
+        .max(second.saturating_add(other.more()));
+    Arc::strided(
+        i.low().wrapping_add(begin) % WORDS,
+        end.saturating_sub(begin),
+        if is_strided { stride } else { 1 },
+    )
+}
+
+// The parts of an interval so far, and one more.
+fn with_part(i: Arc, parts: Option<Arc>, part: Option<Arc>) -> Option<Arc> {
+    match (parts, part) {
+        (Some(one), Some(other)) => Some(both_along(i, one, other)),
+        (None, part) => part,
+        (parts, None) => parts,
+    }
+}
+
+// What an interval and the areas have in common, from the first of it to the last one.
+fn all_common(areas: &[Arc], arc: Arc) -> Option<Arc> {
+    let mut all = None;
     for area in areas {
         if !is_apart(arc, *area) {
-            if met.is_some() {
-                return None;
-            }
-            met = Some(*area);
+            all = with_part(arc, all, within(&Some(arc), &Some(*area)));
         }
     }
-    met
+    all
+}
+
+// The area in which a number is.
+fn area_of(areas: &[Arc], number: u64) -> Option<Arc> {
+    for area in areas {
+        if ahead(area.low(), number) <= area.more() {
+            return Some(*area);
+        }
+    }
+    None
+}
+
+// The areas in which the first number of an interval and the last one are that it has in common with all of them.
+fn areas_at_ends(areas: &[Arc], arc: Arc) -> Option<(Arc, Arc)> {
+    let common = all_common(areas, arc)?;
+    let last = common.low().saturating_add(common.more()) % WORDS;
+    Some((area_of(areas, common.low())?, area_of(areas, last)?))
 }
 
 impl Access {
@@ -100,9 +137,7 @@ impl Access {
     /// What its register holds where the access doesn't trap.
     pub fn held(&self, areas: &[Arc], row: &Row) -> Option<Arc> {
         let arc = self.addresses(row)?;
-        let area = area_met(areas, arc)?;
-        let met = within(&Some(arc), &Some(area));
-        raised(met, self.offset.wrapping_neg())
+        raised(all_common(areas, arc), self.offset.wrapping_neg())
     }
 
     // A limit of the addresses, as one of the register.
@@ -111,16 +146,17 @@ impl Access {
         Limit { word, is_upper }.raised(self.offset.wrapping_neg())
     }
 
-    /// Where its register may go no further down, and no further up, where it isn't one number: where an area begins, and behind its end.
+    /// Where its register may go no further down, and no further up, where it isn't one number, and not all words: where the first area begins of which it has
+    /// something, and behind the end of the last one.
     pub fn limits(&self, areas: &[Arc], row: &Row) -> Option<[Limit; 2]> {
         let arc = self.addresses(row)?;
-        if arc.more() == 0 {
+        if arc.more() == 0 || arc.more() >= WORDS - 1 {
             return None;
         }
-        let area = area_met(areas, arc)?;
-        let last = area.low().saturating_add(area.more());
+        let (first, end) = areas_at_ends(areas, arc)?;
+        let last = end.low().saturating_add(end.more());
         Some([
-            self.limit(area.low(), false),
+            self.limit(first.low(), false),
             self.limit(last.saturating_add(1), true),
         ])
     }

@@ -1,5 +1,6 @@
 //! Tables of a program.
 
+use crate::areas::areas_of;
 use crate::cells::{Cells, Place};
 use crate::copies::{add_copies, add_differences};
 use crate::dividing::Divided;
@@ -169,18 +170,26 @@ impl Analysed<'_> {
         Ok(Some(tables))
     }
 
-    // Tables without numbers in memory. Where the program is too large, they say nothing.
-    fn analyse_plainly(&self, alloc: Global) -> Result<Tables, NoMemory> {
-        let nodes = self.program.nodes.len();
-        let cells = Cells::new(alloc, nodes, &[], false)?;
+    // Tables without numbers in memory. None where the program is too large: nothing of what was known is left then.
+    fn try_plainly(&self, alloc: Global) -> Result<Option<Tables>, NoMemory> {
+        let cells = Cells::new(alloc, self.program.nodes.len(), &[], false)?;
         let mut growth = Growth::new(alloc, self.program, self.forms, self.view, cells)?;
         let mut state = State::blank();
         if !find_states(alloc, &mut growth, &mut state)? {
-            let mut tables = blank_tables(alloc, nodes, self.program.entries.len())?;
-            tables.stack.areas = growth.areas;
+            return Ok(None);
+        }
+        Ok(Some(tables_of(alloc, growth)?))
+    }
+
+    // The same. Where the program is too large, they say nothing.
+    fn analyse_plainly(&self, alloc: Global) -> Result<Tables, NoMemory> {
+        if let Some(tables) = self.try_plainly(alloc)? {
             return Ok(tables);
         }
-        tables_of(alloc, growth)
+        let nodes = self.program.nodes.len();
+        let mut tables = blank_tables(alloc, nodes, self.program.entries.len())?;
+        tables.stack.areas = areas_of(alloc, self.view)?;
+        Ok(tables)
     }
 
     // Tables, with the intervals of forms: by as many numbers in memory as all stores keep.

@@ -25,10 +25,14 @@ const LEFT: u32 = BASE + 60;
 fn notes_of(alloc: Global, header: u32, to: u32, bound: u32) -> Result<LoopNotes, Fail> {
     let mut items = Vec::new(alloc);
     items.push(Range { from: header, to })?;
+    let ranges = RangeList::from_vec(items);
+    if ranges.count() != 1 || bound > 1_000_000_000 {
+        return Err("the loop has a range and a bound".into());
+    }
     let mut notes = LoopNotes::new(alloc);
     notes.push(LoopNote {
         header,
-        ranges: RangeList::from_vec(items),
+        ranges,
         bound,
         counted: false,
         at_least: 0,
