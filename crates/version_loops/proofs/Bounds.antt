@@ -14,7 +14,7 @@ use Rattle.stack_laws.proofs.Laws.{image_laid, image_told}
 use Rattle.turn_laws.specs.Relating.{IsShown}
 use Rattle.turn_laws.proofs.Laws.{bounded}
 use Rattle.loop_file.specs.declared.notes.LoopNote.{LoopNote}
-use Rattle.loop_file.specs.Kept.{in_extent, note_at, noted_loops}
+use Rattle.loop_file.specs.Kept.{note_at, noted_loops}
 use Rattle.loop_file.specs.Loops.{read_loops}
 use Rattle.loop_drafts.specs.declared.drafted.LoopDraft.{LoopDraft}
 use Rattle.loop_drafts.specs.Bounds.{IsOpen, IsBoundShown, AreNoneFound, AreBoundsShown, AreBoundsFound}
@@ -30,11 +30,12 @@ ok_same o x y p q = let r : x ≡ y = cc in r
 abbrev no_note : LoopNote
 no_note = record { header = 0; ranges = []; bound = 0; counted = false; at_least = 0 }
 
+abbrev extent_by : ℕ → List Range → ℕ → Bool
+extent_by at ranges = λ v. (v == at) || list_any (is_in v) ranges
+
 -- notes with one header and the same ranges have one extent
-one_extent : (one other : LoopNote) → other.header ≡ one.header → other.ranges ≡ one.ranges → (λ v. in_extent one v) ≡ (λ v. in_extent other v)
-one_extent one other h r =
-    ap (λ (at : ℕ). λ (v : ℕ). (v == at) || list_any (is_in v) one.ranges) (sym h) ∙
-    ap (λ (ranges : List Range). λ (v : ℕ). (v == other.header) || list_any (is_in v) ranges) (sym r)
+one_extent : (one other : LoopNote) → other.header ≡ one.header → other.ranges ≡ one.ranges → extent_by one.header one.ranges ≡ extent_by other.header other.ranges
+one_extent one other h r = ap (λ (at : ℕ). extent_by at one.ranges) (sym h) ∙ ap (λ (ranges : List Range). extent_by other.header ranges) (sym r)
 
 -- what is found of the bounds of a draft's notes
 found_bounds : (file : List ℕ) (image : Image) (drafted : List LoopNote) → image_of file ≡ Ok image → (is : AreNotesDrafted file image drafted) → AreBoundsFound image None drafted is.draft.returns
