@@ -1,4 +1,4 @@
--- Loop files that may be given.
+-- Scaffold: loop files that may be given.
 use Rattle.std.specs.Prelude.{ℕ, List, [], option_map, unwrap_or, Option}
 use Rattle.std.specs.Borrow.{Bor}
 
