@@ -21,7 +21,7 @@ loop-k-preserved c =
     let one = c.index-reasons-k.result in
     let there = slice_get_read reasons (length reasons) k one refl (omega arith) c.index-reasons-k.is in
     let first = get_or_from_slice_get drafted k c.note.result.now _ c.note.ensures.note in
-    let second = get_or_from_slice_get notes k c.note-2.result.now _ c.note-2.ensures.note in
+    let second = get_or_from_slice_get notes k c.note-in-loop-k.result.now _ c.note-in-loop-k.ensures.note in
     let so : IsKeptSo one (note_at drafted k) (note_at notes k) =
     subst (λ (note : LoopNote). IsKeptSo one note (note_at notes k)) (sym first) (subst (λ (note : LoopNote). IsKeptSo one c.note.result.now note) (sym second) (c.if-not-is_kept_so.ensures refl)) in
     below_more (λ (i : ℕ). (reason : Option CopyReason) → slice_get reasons i ≡ Some reason → IsKeptSo reason (note_at drafted i) (note_at notes i)) k c.loop-k.invariant
