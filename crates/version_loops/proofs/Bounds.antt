@@ -1,24 +1,21 @@
 -- The bound of a version's loop that its draft shows is kept by every run of the version.
-use Rattle.std.proofs.Common.{◌≡◌, ℕ, ◌<◌, ⊎_elim, List, [], length, All, Result, Option, None, Some, Ok, false, refl, sym, ap, ◌∙◌, subst}
+use Rattle.std.proofs.Common.{◌≡◌, ℕ, ◌<◌, ⊎_elim, List, [], length, Result, None, Ok, false, refl, sym, ap, ◌∙◌, subst}
 use Rattle.std.specs.Prelude.{◌==◌, ◌||◌, Bool}
 use Rattle.std.specs.List.{list_any}
 use Rattle.scale_base.specs.declared.ranges.Range.{Range}
 use Rattle.scale_base.specs.Image.{Image, image_of, is_in}
 use Rattle.scale_base.specs.Run.{setting_of, start_of}
-use Rattle.cost_theory.specs.Graph.{Loops}
 use Rattle.code_text.specs.Text.{text_of}
 use Rattle.code_text.specs.TextGraph.{text_graph}
 use Rattle.graph_runs.proofs.Laws.{image_starts}
 use Rattle.bound_laws.proofs.Laws.{loaded_small}
 use Rattle.stack_laws.proofs.Laws.{image_laid, image_told}
-use Rattle.turn_laws.specs.Relating.{IsShown}
 use Rattle.turn_laws.proofs.Laws.{bounded}
 use Rattle.loop_file.specs.declared.notes.LoopNote.{LoopNote}
 use Rattle.loop_file.specs.Kept.{note_at, noted_loops}
 use Rattle.loop_file.specs.Loops.{read_loops}
-use Rattle.loop_drafts.specs.declared.drafted.LoopDraft.{LoopDraft}
 use Rattle.loop_drafts.specs.Bounds.{IsOpen, IsBoundShown, AreNoneFound, AreBoundsShown, AreBoundsFound}
-use Rattle.loop_drafts.specs.Drafted.{filled_most, IsDraftOf, IsDrafted}
+use Rattle.loop_drafts.specs.Drafted.{filled_most, IsDraftOf}
 use Rattle.loop_drafts.specs.Kept.{AreBytes}
 use Rattle.version_loops.proofs.Shown.{shown_as}
 use Rattle.copy_bounds.specs.Laws.{IsBoundKept}

@@ -1,5 +1,5 @@
 -- A loop file of a version that is shown covers each of its loops.
-use Rattle.std.proofs.Common.{◌≡◌, ℕ, ◌<◌, ◌⊎◌, ⊎_elim, inl, inr, List, length, Option, None, Some, Ok, refl, sym, ap, ◌∙◌, subst}
+use Rattle.std.proofs.Common.{◌≡◌, ℕ, ◌<◌, ⊎_elim, inl, inr, List, None, Ok, refl, sym, ap, ◌∙◌, subst}
 use Rattle.scale_base.specs.Image.{Image, image_of}
 use Rattle.code_text.specs.Text.{text_of}
 use Rattle.code_text.specs.TextGraph.{text_graph}
@@ -10,9 +10,8 @@ use Rattle.loop_versions.specs.Made.{IsVersioned}
 use Rattle.loop_drafts.specs.Kept.{AreBytes}
 use Rattle.copy_bounds.specs.Copies.{CopiesLoop}
 use Rattle.copy_bounds.specs.Meanings.{meaning}
-use Rattle.copy_bounds.specs.Laws.{AreCovered, IsBoundKept}
+use Rattle.copy_bounds.specs.Laws.{AreCovered}
 use Rattle.copy_checks.specs.Checked.{AreMeant, IsCopied}
-use Rattle.copy_checks.specs.declared.covering.CopyReason.{CopyReason}
 use Rattle.versioned_images.specs.declared.versions.Version.{Version}
 use Rattle.versioned_images.specs.Versions.{IsVersionOf}
 use Rattle.version_loops.specs.Checked.{AreNotesDrafted, AreNotesOf, IsShownFile}

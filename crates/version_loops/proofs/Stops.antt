@@ -3,7 +3,6 @@ use Rattle.std.proofs.Common.{◌≡◌, Result, Option, Ok, Err, Some, None}
 use Rattle.std.specs.Prelude.{IfOk, IfSome}
 use Rattle.scale_base.specs.declared.refusal.Refusal.{Refusal}
 use Rattle.scale_base.specs.declared.refusal.Stop.{Stop}
-use Rattle.scale_base.specs.declared.refusal.Stop.TheVariants.{Refused, Memory}
 use Rattle.scale_base.specs.Answer.{Answers, AnswersBy}
 
 pub ok_of : {X Y : Type 0} (view : X → Y) (o : Result X Stop) (meant : Result Y Refusal) (P : X → Type 0) → Answers view o meant → ((x : X) → meant ≡ Ok (view x) → P x) → IfOk o P

@@ -1,5 +1,4 @@
-use Rattle.std.proofs.Common.{◌≡◌, List, Ok}
-use Rattle.loop_file.specs.declared.notes.LoopNote.{LoopNote}
+use Rattle.std.proofs.Common.{◌≡◌, Ok}
 use Rattle.loop_file.specs.Loops.{read_loops}
 use Rattle.loop_drafts.specs.Drafted.{filled_most}
 use Rattle.version_loops.specs.Checked.{AreNotesDrafted}
