@@ -1,3 +1,4 @@
+mod Behind
 mod Drafted
 mod DrawnFiles
 mod DrawnPlan
@@ -12,4 +13,5 @@ mod SmallStatus
 mod SwitchLines
 mod Told
 mod ToldInOne
+mod Versions
 mod Wants

@@ -1,0 +1,6 @@
+mod Bounds
+mod Covered
+mod Law
+mod Stops
+pub mod Laws
+mod Shown
