@@ -17,7 +17,7 @@ use Rattle.loop_file.specs.Loops.{read_loops}
 use Rattle.loop_drafts.specs.Bounds.{IsOpen, IsBoundShown, AreNoneFound, AreBoundsShown, AreBoundsFound}
 use Rattle.loop_drafts.specs.Drafted.{filled_most, IsDraftOf}
 use Rattle.loop_drafts.specs.Kept.{AreBytes}
-use Rattle.version_loops.proofs.Shown.{shown_as}
+use Rattle.loop_drafts.proofs.Laws.{shown_as}
 use Rattle.copy_bounds.specs.Laws.{IsBoundKept}
 use Rattle.version_loops.specs.Checked.{AreNotesDrafted, IsDraftedAs}
 

@@ -3,4 +3,3 @@ mod Covered
 mod Law
 mod Stops
 pub mod Laws
-mod Shown

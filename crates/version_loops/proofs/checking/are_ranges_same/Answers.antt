@@ -1,5 +1,5 @@
 use Rattle.std.proofs.Common.{arith}
-use Rattle.version_loops.proofs.Shown.{same_list}
+use Rattle.loop_drafts.proofs.Laws.{same_list}
 use Rattle.version_loops.proofs.checking.are_ranges_same.Goals as goal
 
 pub returns : goal.returns
