@@ -11,7 +11,7 @@ nothing counts is told and left out.
 Deadlines are 1.5, 2.5 and 3.0 times the worst cycles; levels take 4, 2 and 1 time units and 1, 3 and 8 energy units a cycle, a switch takes 10 and 20. Images are fitted to
 the first and the third input. For each deadline there is the geometric mean of the energies over those of `hold`, and the greatest, on the inputs that were fitted to together and
 on each of the others. Then the same of the builds in whose draft no loop is open. A run that breaks the promise is told, as by `fit.py`, and the status is 1. With `--versions`, images are those of `pace all` where no loop is open in the draft,
-and it is told how many have code twice.
+else those of `pace fit --versions`, and it is told how many have code twice.
 """
 
 import argparse
@@ -105,7 +105,8 @@ def fit(program, deadline):
     if program.tools.versions and program.is_closed:
         status, text = run(program.tools.pace, "all", image, machine, *given)
     else:
-        status, text = run(program.tools.pace, "fit", image, machine, loops, *given)
+        tried = ["--versions"] if program.tools.versions else []
+        status, text = run(program.tools.pace, "fit", image, machine, loops, *given, *tried)
     if status:
         return [f"status {status}"], {}, False
     faults, ratios = [], {}

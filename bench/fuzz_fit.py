@@ -73,15 +73,17 @@ def program_faults(tools, which):
     return images, switched, faults
 
 
-def fuzz(program_faults, most, images_a_program, what):
+def fuzz(program_faults, most, images_a_program, what, *flags):
     """Makes images of programs side by side, as many as the words of the command line say or `most`, and prints what is wrong of them and how many have what is sought.
-    Whether something is wrong."""
+    Whether something is wrong. The words may have these flags, too."""
     words = argparse.ArgumentParser()
     words.add_argument("--images", type=int, default=most)
     words.add_argument("--jobs", type=int, default=os.cpu_count())
     words.add_argument("--first", type=int, default=1)
     words.add_argument("--pace", default=os.path.join(TOP, "pace"))
     words.add_argument("--scale", default=os.path.join(TOP, "scale"))
+    for flag in flags:
+        words.add_argument(flag, action="store_true")
     tools = words.parse_args()
     images = having = faults = 0
     numbers = range(tools.first, tools.first + tools.images // images_a_program)

@@ -1,11 +1,12 @@
 #!/usr/bin/env python3
 """Stores images in which loops are there twice, by `pace all`, many and small ones, and checks each of their runs from outside the proof.
 
-    fuzz_versions.py [--images N] [--jobs N] [--first NUMBER] [--pace PROGRAM] [--scale PROGRAM]
+    fuzz_versions.py [--by-hand] [--images N] [--jobs N] [--first NUMBER] [--pace PROGRAM] [--scale PROGRAM]
 
 It makes programs by number, from NUMBER on: of one to four loops over what was read, that count down, go from pointer to pointer, turn other loops inside, call functions that call
 others, or are left out by a byte of the input. For each it draws inputs of up to 64 bytes and two deadlines from 1.02 to 4.5 times the worst cycles, with costs of switches and periods
-of levels, and has an image made for one to three of the inputs. Each image runs on all of them. A run that breaks the promise is told with the number of the program: another output or
+of levels, and has an image made for one to three of the inputs. Each image runs on all of them. With `--by-hand` images are those of `pace fit --versions` with a loop file as one writes it by
+hand, of which half the bounds are less than what is proved, and runs that break these are left out. A run that breaks the promise is told with the number of the program: another output or
 ending than the original's, a time over the deadline, a level that ends above the one that it began at, more energy than its held energy; and more energy than `hold` takes over the inputs
 that were given. It prints how many images there were, how many of them have a loop twice, and how many faults; with a fault the status is 1.
 """
@@ -16,7 +17,7 @@ import re
 import sys
 import tempfile
 
-from fit import breaches, number, run
+from fit import breaches, counts, number, run
 from fuzz_fit import fuzz, machine_text, simulated
 from runs import TOP
 
@@ -93,6 +94,16 @@ class Writer:
         return lines + [line for function in self.functions for line in function]
 
 
+def by_hand(draw, text):
+    """A draft as one writes it by hand: half the bounds are less, and nothing is said of least turns."""
+
+    def written(line):
+        bound = int(line[1])
+        return f"bound = {draw.randint(bound // 3, bound) if draw.random() < 0.5 else bound}"
+
+    return re.sub(r"(?m)^bound = (\d+)$", written, re.sub(r"(?m)^at_least = \d+\n", "", text))
+
+
 def program_faults(tools, which):
     """Images of a program: how many, how many have a loop twice, and what is wrong."""
     draw = random.Random(which)
@@ -108,6 +119,11 @@ def program_faults(tools, which):
         with open(f"{folder}/m", "w") as file:
             file.write(machine)
         drafted = run(tools.pace, "loops", f"{folder}/p.elf", f"{folder}/loops")[0]
+        if tools.by_hand and not drafted:
+            with open(f"{folder}/loops") as file:
+                draft = file.read()
+            with open(f"{folder}/loops", "w") as file:
+                file.write(by_hand(draw, draft))
         status, text = run(tools.scale, "hold", f"{folder}/p.elf", f"{folder}/m", f"{folder}/loops", f"{folder}/held")
         if drafted or status:
             return 0, 0, [f"program {which}: loops {drafted}, hold {status}, {text.strip()}"]
@@ -116,7 +132,11 @@ def program_faults(tools, which):
             with open(f"{folder}/m", "w") as file:
                 file.write(machine_text(machine, draw, deadline))
             inputs = [f"{folder}/input{k}" for k in draw.sample(range(INPUTS), draw.randint(1, 3))]
-            status, told = run(tools.pace, "all", f"{folder}/p.elf", f"{folder}/m", f"{folder}/made", *inputs)
+            program, made = (f"{folder}/p.elf", f"{folder}/m"), (f"{folder}/made", *inputs)
+            if tools.by_hand:
+                status, told = run(tools.pace, "fit", *program, f"{folder}/loops", *made, "--versions")
+            else:
+                status, told = run(tools.pace, "all", *program, *made)
             if status:
                 faults.append(f"program {which}, deadline {deadline}: status {status}, {told.strip()}")
                 continue
@@ -125,11 +145,14 @@ def program_faults(tools, which):
             if number(told, "energy") > number(told, "plain hold energy" if "plain hold energy" in told else "hold energy"):
                 faults.append(f"program {which}, deadline {deadline}: more energy than that of hold")
             for k in range(INPUTS):
-                runs = [simulated(tools, folder, image, k) for image in ("p.elf", "made")]
+                loops = [f"{folder}/loops"] if tools.by_hand else []
+                runs = [simulated(tools, folder, "p.elf", k, *loops), simulated(tools, folder, "made", k)]
+                if tools.by_hand and not counts(runs[0]):
+                    continue
                 # The cycles that a guard adds are told nowhere.
                 faults += [f"program {which}, deadline {deadline}, input {k}: {what}" for what in breaches(told, deadline, *runs) if what != "too many cycles"]
     return images, twice, faults
 
 
 if __name__ == "__main__":
-    sys.exit(fuzz(program_faults, 500, IMAGES_A_PROGRAM, "a loop twice"))
+    sys.exit(fuzz(program_faults, 500, IMAGES_A_PROGRAM, "a loop twice", "--by-hand"))

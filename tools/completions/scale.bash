@@ -30,6 +30,7 @@ _scale_words() {
 _scale_options() {
     case $1 in
     "pace loops") echo "--input-bytes" ;;
+    "pace fit") echo "--versions" ;;
     "pace all") echo "--input-bytes --no-versions" ;;
     esac
 }

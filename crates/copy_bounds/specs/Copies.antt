@@ -1,4 +1,4 @@
--- Scaffold: loops of a versioned image that copy loops of the original, as the code says it edge by edge.
+-- Loops of a versioned image that copy loops of the original, as the code says it edge by edge.
 use Rattle.std.specs.Prelude.{◌≡◌, ◌≢◌, ℕ, ◌<◌, ◌≤◌, ◌⊎◌, Bool, true, false, List, Option, Some, None}
 use Rattle.cost_theory.specs.Graph.{Graph, Loops}
 use Rattle.code_text.specs.Text.{Text}

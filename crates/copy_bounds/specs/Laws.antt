@@ -1,4 +1,4 @@
--- Scaffold: the law of bounds in versioned images.
+-- The law of bounds in versioned images.
 use Rattle.std.specs.Prelude.{◌≡◌, ℕ, ◌^◌, ◌<◌, ◌≤◌, ◌⊎◌, All, List, Some}
 use Rattle.scale_base.specs.Image.{Image}
 use Rattle.scale_base.specs.Run.{HasExited, run_of}

@@ -1,4 +1,4 @@
--- Scaffold: what the addresses of a versioned image stand for, by its pieces and sites.
+-- What the addresses of a versioned image stand for, by its pieces and sites.
 use Rattle.std.specs.Prelude.{ℕ, ◌&&◌, ◌||◌, not, nat_le, nat_lt, Bool, List, [], ◌∷◌, Option, Some, None, is_some, if◌then◌else◌}
 use Rattle.scale_base.specs.Arith.{plus}
 use Rattle.graph_runs.specs.KeptSteps.{call_of}

@@ -21,7 +21,7 @@ module _ (t : Text) (g : Graph) (v : Values) (w : Stacks) (most : Option ℕ) (l
   at_header : (P : ℕ → (ℕ → Bool) → Type 0) → P (l.header k) (l.inside k) → P (m.header j) (m.inside j)
   at_header P p = subst (λ (e : ℕ → Bool). P (m.header j) e) inside (subst (λ h. P h (l.inside k)) header p)
 
-  shown_as : IsShown t g v w most l k → IsShown t g v w most m j
+  pub shown_as : IsShown t g v w most l k → IsShown t g v w most m j
   shown_as shown = ⊎_elim
       (λ (s : counting.IsShown t g v w l k). inl (record {
         certificate = s.certificate;

@@ -1,6 +1,6 @@
 -- The answer to `all` has a status that may be given, and keeps its promise.
-use Rattle.std.proofs.Common.{◌≡◌, ◌≢◌, ◌∙◌, ◌++◌, ◌==◌, ◌<◌, ◌≤◌, ℕ, List, [], ◌∷◌, length, inl, inr, refl, sym, ap, subst, Bool, true, false, nat_le, arith}
-use Rattle.std.specs.Prelude.{if◌then◌else◌, Option, Result, Ok, Err}
+use Rattle.std.proofs.Common.{◌≡◌, ◌≢◌, ◌∙◌, ◌++◌, ◌<◌, ◌≤◌, ℕ, List, [], ◌∷◌, length, inl, inr, refl, sym, ap, subst, Bool, true, false, nat_le, arith}
+use Rattle.std.specs.Prelude.{Option, Result, Ok, Err}
 use Rattle.std.specs.FinMap.{get}
 use Rattle.scale_base.specs.declared.refusal.Refusal.{Refusal}
 use Rattle.scale_base.specs.declared.summary.Lowered.{Lowered}
@@ -24,23 +24,8 @@ use Rattle.versioned_images.specs.Versions.{IsVersionOf}
 use Rattle.version_fits.specs.declared.choosing.ChosenVersion.{ChosenVersion}
 use Rattle.pace_tool.specs.Texts.{drafted_text}
 use Rattle.pace_tool.proofs.Drafted.{drafted_safely}
+use Rattle.pace_tool.proofs.Behind.{behind_status, behind_stores}
 use Rattle.pace_tool.proofs.FitKept.{fit_kept, fit_small}
-
--- ---- a text before that of an answer
-
-behind_status : (text : List ℕ) (answer : Answer) → (behind text answer).status ≡ answer.status
-behind_status text answer = of (answer.status == 0)
-  where
-    of : (b : Bool) → (if b then record answer { text = text ++ answer.text } else answer).status ≡ answer.status
-    of true = refl
-    of false = refl
-
-behind_stores : (text : List ℕ) (answer : Answer) → (behind text answer).stores ≡ answer.stores
-behind_stores text answer = of (answer.status == 0)
-  where
-    of : (b : Bool) → (if b then record answer { text = text ++ answer.text } else answer).stores ≡ answer.stores
-    of true = refl
-    of false = refl
 
 -- ---- the status
 
@@ -79,18 +64,18 @@ tried_kept machine most inputs false plain tried text is = is.0
 tried_kept machine most inputs true plain tried text (inl same) = inl same.0
 tried_kept machine most inputs true plain tried text (inr other) =
     let chosen : ChosenVersion = other.0 in
-    let version : IsVersionOf plain chosen.version = other.1.version in
+    let version : IsVersionOf plain chosen.version = other.1.fitted.is_version in
     inr (record {
       image = version.image;
       versioned = version.versioned;
-      pieces = version.pieces;
-      sites = version.sites;
-      base = version.base;
+      pieces = chosen.version.pieces.items;
+      sites = chosen.version.sites.items;
+      base = chosen.version.base;
       is_read = version.is_read;
       is_versioned = version.is_versioned;
       file = version.file ∙ sym other.2;
-      exits = λ levels input n status bytes back exited. versioned_runs_exit version.image version.versioned version.pieces version.sites version.base levels input n status version.is_versioned bytes back exited;
-      follows = λ levels input n bytes outside back. versioned_runs_follow version.image version.versioned version.pieces version.sites version.base levels input n version.is_versioned bytes outside back;
+      exits = λ levels input n status bytes back exited. versioned_runs_exit version.image version.versioned chosen.version.pieces.items chosen.version.sites.items chosen.version.base levels input n status version.is_versioned bytes back exited;
+      follows = λ levels input n bytes outside back. versioned_runs_follow version.image version.versioned chosen.version.pieces.items chosen.version.sites.items chosen.version.base levels input n version.is_versioned bytes outside back;
       goes_back = λ limit draft drafted proved levels input n bytes has.
           let own = subst AreBytes (read_file plain version.image version.is_read) version.is_versioned.bytes in
           let back = returns_go_back plain limit draft version.image levels input n own bytes drafted version.is_read proved in

@@ -1,3 +1,4 @@
+mod Behind
 mod Drafted
 mod DrawnFiles
 mod DrawnPlan
@@ -7,6 +8,7 @@ mod GivenInputs
 mod InOne
 mod LeftLines
 mod OneStatus
+mod OwnFiles
 mod Promises
 mod SmallStatus
 mod SwitchLines

@@ -1,4 +1,4 @@
--- All answers that may be given have one status, but for those to `loops` and `all`.
+-- All answers that may be given have one status, but for those to `loops` and `all`, and to `fit` where versions are tried.
 use Rattle.std.proofs.Common.{◌≡◌, ℕ, List, [], ◌∷◌, inl, inr, Some, None, refl, sym, ap, ◌∙◌, true, nat_le}
 use Rattle.std.specs.Prelude.{IsTrue, IfOk, Result, Ok, Err}
 use Rattle.scale_base.specs.declared.refusal.NoMemory.{NoMemory}
@@ -20,6 +20,7 @@ use Rattle.pace_tool.specs.Answer.{DraftsJumps, Makes}
 use Rattle.pace_tool.specs.Fits.{Fits, MakesFit}
 use Rattle.pace_tool.proofs.FitKept.{fit_small}
 use Rattle.pace_tool.proofs.InOne.{in_one_small}
+use Rattle.pace_tool.proofs.OwnFiles.{versions_small}
 use Rattle.pace_tool.proofs.SmallStatus.{file_told, text_told}
 use Rattle.level_reasons.specs.declared.shown.Shown.{Shown}
 use Rattle.level_reasons.specs.Program.{AreReasons}
@@ -38,7 +39,7 @@ use Rattle.run_pictures.specs.PictureTexts.{picture_text}
 use Rattle.scale_base.specs.declared.ranges.Keyed.{Keyed}
 use Rattle.scale_base.specs.Image.{Image, image_of}
 use Rattle.loop_drafts.specs.declared.drafted.LoopDraft.{LoopDraft}
-use Rattle.pace_tool.specs.Command.{Command, Fit, Show, Loops, Explain, DrawRun, DrawPlan, Jumps, InOne, has_one_status, may_give, wants_of}
+use Rattle.pace_tool.specs.Command.{Command, Fit, FitVersions, Show, Loops, Explain, DrawRun, DrawPlan, Jumps, InOne, has_one_status, may_give, wants_of}
 use Rattle.pace_tool.specs.Drafts.{Drafts}
 use Rattle.pace_tool.specs.Drawn.{DrawsPlan, DrawsRuns}
 use Rattle.pace_tool.proofs.DrawnFiles.{drawn_apart}
@@ -110,6 +111,7 @@ jumps_apart image given refusal drafted (inr scaled) =
 
 one_made : (command : Command) → has_one_status command ≡ true → (files : List (List ℕ)) (one other : Answer) → Makes command files one → Makes command files other → one.status ≡ other.status
 one_made (Fit image machine loops out inputs) pinned (i ∷ m ∷ l ∷ given) one other x y = one_fit i m l out given one other x y
+one_made (FitVersions image machine loops out inputs) pinned files one other x y = absurd (cc)
 one_made (Show image machine loops) pinned (i ∷ m ∷ l ∷ []) one other x y = runs.one_told (AreReasons i m l) (text_answer reasons_text) (text_same (AreReasons i m l) (reasons_apart i m l) reasons_text) one other x y
 one_made (Loops image out most inputs) pinned files one other x y = absurd (cc)
 one_made (Explain image machine loops) pinned (i ∷ m ∷ l ∷ []) one other x y =
@@ -132,6 +134,7 @@ status_of_all command status old new pinned = runs.status_of_all (wants_of comma
 
 status_small : (command : Command) (files : List (List ℕ)) (answer : Answer) → Makes command files answer → nat_le answer.status 1 ≡ true
 status_small (Fit image machine loops out inputs) (i ∷ m ∷ l ∷ given) answer x = fit_small i m l given out answer x
+status_small (FitVersions image machine loops out inputs) (i ∷ m ∷ l ∷ given) answer x = versions_small i m l given out answer x
 status_small (Show image machine loops) (i ∷ m ∷ l ∷ []) answer x = text_told (AreReasons i m l) reasons_text answer x
 status_small (Loops image out most inputs) (i ∷ given) answer x = file_told (Drafts i most) drafted_text out answer x.1
 status_small (Explain image machine loops) (i ∷ m ∷ l ∷ []) answer x = text_told (AreExplained i m l) explained_text answer x

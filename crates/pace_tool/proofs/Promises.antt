@@ -11,18 +11,21 @@ use Rattle.host_runs.proofs.Laws.{EachWithin}
 use Rattle.pace_fit.specs.Endings.{endings_on}
 use Rattle.pace_tool.specs.Answer.{Makes}
 use Rattle.pace_tool.specs.Fits.{Fits, IsFittedSafely, MakesFit}
-use Rattle.pace_tool.specs.Command.{Command, Fit, Show, Loops, Explain, DrawRun, DrawPlan, Jumps, InOne, wants_of}
+use Rattle.pace_tool.specs.Command.{Command, Fit, FitVersions, Show, Loops, Explain, DrawRun, DrawPlan, Jumps, InOne, wants_of}
 use Rattle.pace_tool.specs.Drafts.{Drafts, IsDraftedSafely}
 use Rattle.pace_tool.specs.Promise.{FitsAny, Promise}
 use Rattle.pace_tool.specs.Texts.{drafted_text, fitted_text}
 use Rattle.pace_tool.proofs.Drafted.{drafted_safely}
 use Rattle.pace_tool.proofs.FitKept.{fit_kept}
 use Rattle.pace_tool.proofs.InOne.{in_one_kept}
+use Rattle.pace_tool.proofs.OwnFiles.{versions_kept}
 
 kept : (command : Command) (loaded : List (List ℕ)) (files : Files) (answer : Answer) → EachWithin (wants_of command) loaded → Makes command loaded answer → answer.status ≢ 1 →
     Promise command loaded (with_stores answer.stores files)
 kept (Fit image machine loops out inputs) (i ∷ m ∷ l ∷ given) files answer within made done = fit_kept i m l given out files answer made done
 kept (Fit image machine loops out inputs) loaded files answer within made done = absurd made
+kept (FitVersions image machine loops out inputs) (i ∷ m ∷ l ∷ given) files answer within made done = versions_kept i m l given out files answer made done
+kept (FitVersions image machine loops out inputs) loaded files answer within made done = absurd made
 kept (Show image machine loops) loaded files answer within made done = tt
 kept (Loops image out most inputs) (i ∷ given) files answer within made done = runs.stored_kept (Drafts i most) (IsDraftedSafely i most) drafted_text out files (λ stored draft is. drafted_safely i most stored made.0 draft is) answer made.1 done
 kept (Loops image out most inputs) loaded files answer within made done = absurd made

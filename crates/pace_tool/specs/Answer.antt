@@ -12,8 +12,9 @@ use Rattle.plan_texts.specs.Counts.{plan_text}
 use Rattle.run_pictures.specs.PictureTexts.{picture_text}
 use Rattle.worst_reports.specs.Explained.{AreExplained}
 use Rattle.worst_reports.specs.ExplainedTexts.{explained_text}
-use Rattle.pace_tool.specs.Command.{Command, Fit, Show, Loops, Explain, DrawRun, DrawPlan, Jumps, InOne}
+use Rattle.pace_tool.specs.Command.{Command, Fit, FitVersions, Show, Loops, Explain, DrawRun, DrawPlan, Jumps, InOne}
 use Rattle.pace_tool.specs.Fits.{MakesFit}
+use Rattle.pace_tool.specs.Versions.{MakesVersionFit}
 use Rattle.pace_tool.specs.InOne.{MakesInOne}
 use Rattle.pace_tool.specs.Drawn.{DrawsPlan, DrawsRuns}
 use Rattle.pace_tool.specs.Drafts.{Drafts}
@@ -28,6 +29,7 @@ DraftsJumps image (Err refusal) = AreJumpsDrafted image (Err refusal)
 -- said of bytes; of the inputs of `loops` comments of the file tell alone. Both may be told how many bytes an input has at most.
 abbrev pub Makes : Command → List (List ℕ) → Answer → Type 0
 Makes (Fit image machine loops out inputs) (i ∷ m ∷ l ∷ given) answer = MakesFit i m l given out answer
+Makes (FitVersions image machine loops out inputs) (i ∷ m ∷ l ∷ given) answer = MakesVersionFit i m l given out answer
 Makes (Show image machine loops) (i ∷ m ∷ l ∷ []) answer = Tells (AreReasons i m l) (text_answer reasons_text) answer
 Makes (Loops image out most inputs) (i ∷ given) answer = AreBytes i × Tells (Drafts i most) (stored_answer drafted_text out) answer
 Makes (Explain image machine loops) (i ∷ m ∷ l ∷ []) answer = Tells (AreExplained i m l) (text_answer explained_text) answer

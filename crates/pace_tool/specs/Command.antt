@@ -5,6 +5,7 @@ use Rattle.scale_base.specs.declared.limits.TheConstants.{FILE_LIMIT, IMAGE_LIMI
 
 pub data Command : Type 0 where
   Fit : (image machine loops out : List ℕ) (inputs : List (List ℕ)) → Command
+  FitVersions : (image machine loops out : List ℕ) (inputs : List (List ℕ)) → Command
   Show : (image machine loops : List ℕ) → Command
   Loops : (image out : List ℕ) (most : Option ℕ) (inputs : List (List ℕ)) → Command
   Explain : (image machine loops : List ℕ) → Command
@@ -46,6 +47,7 @@ drawn_wants machine names = (machine, FILE_LIMIT) ∷ run_wants names
 -- the files that it loads, in order, each with its limit in bytes
 abbrev pub wants_of : Command → Wants
 wants_of (Fit image machine loops out inputs) = program_wants image machine loops (input_wants FILE_LIMIT inputs)
+wants_of (FitVersions image machine loops out inputs) = program_wants image machine loops (input_wants FILE_LIMIT inputs)
 wants_of (Show image machine loops) = program_wants image machine loops []
 wants_of (Loops image out most inputs) = image_wants image (input_wants (input_limit most) inputs)
 wants_of (Explain image machine loops) = program_wants image machine loops []
@@ -62,9 +64,11 @@ may_give status = nat_le status 1
 abbrev pub may_answer : ℕ → Bool
 may_answer status = may_give status || (status == 3 || status == 4)
 
--- whether all answers that are right for its files have one status: not of `loops` and `all`, since the draft of an image isn't the only one that may be stored
+-- whether all answers that are right for its files have one status: not of `loops` and `all`, since the draft of an image isn't the only one that may be stored, and not of `fit` where
+-- versions are tried, since which version is taken isn't said
 abbrev pub has_one_status : Command → Bool
 has_one_status (Fit image machine loops out inputs) = true
+has_one_status (FitVersions image machine loops out inputs) = false
 has_one_status (Show image machine loops) = true
 has_one_status (Loops image out most inputs) = false
 has_one_status (Explain image machine loops) = true

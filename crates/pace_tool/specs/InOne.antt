@@ -1,6 +1,6 @@
 -- What `all` gives: the jumps of an image are drafted and lowered, its loops are drafted, for inputs of so many bytes at most, where that is told, and it is fitted
 -- to inputs.
-use Rattle.std.specs.Prelude.{◌≡◌, ◌⊎◌, ℕ, ◌<◌, ◌≤◌, ◌++◌, ◌==◌, ◌||◌, not, Bool, true, false, List, [], length, flat_map, if◌then◌else◌, Option, Result, Ok, Err, string_bytes}
+use Rattle.std.specs.Prelude.{◌≡◌, ◌⊎◌, ℕ, ◌<◌, ◌≤◌, ◌++◌, ◌==◌, ◌||◌, not, Bool, true, false, List, [], length, flat_map, if◌then◌else◌, Option, None, Result, Ok, Err, string_bytes}
 use Rattle.std.specs.FinMap.{get}
 use Rattle.std.specs.List.{list_any}
 use Rattle.scale_base.specs.declared.limits.TheConstants.{IMAGE_LIMIT}
@@ -96,7 +96,7 @@ MakesOfTried machine out most inputs tried text answer =
 abbrev pub IsTried : (machine : List ℕ) (most : Option ℕ) (inputs : List (List ℕ)) (versions : Bool) (plain tried text : List ℕ) → Type 0
 IsTried machine most inputs false plain tried text = (tried ≡ plain) × (text ≡ [])
 IsTried machine most inputs true plain tried text = ((tried ≡ plain) × (text ≡ no_version_text))
-    ⊎ ((chosen : ChosenVersion) × IsChosenVersion plain machine most inputs chosen × (tried ≡ chosen.version.file.items) ×
+    ⊎ ((chosen : ChosenVersion) × IsChosenVersion plain machine most None inputs chosen × (tried ≡ chosen.version.file.items) ×
     (text ≡ version_text chosen))
 
 -- that for an image that goes on

@@ -8,4 +8,5 @@ pub mod Naming
 pub mod Promise
 pub mod Texts
 pub mod Told
+pub mod Versions
 pub mod Views

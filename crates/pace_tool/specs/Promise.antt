@@ -15,12 +15,16 @@ use Rattle.image_lower.specs.Promise.{IsLoweredSafely}
 use Rattle.loop_drafts.specs.declared.drafted.LoopDraft.{LoopDraft}
 use Rattle.loop_drafts.specs.Drafted.{IsDrafted}
 use Rattle.loop_drafts.specs.Kept.{AreBytes}
+use Rattle.graph_runs.specs.KeptRuns.{IsKeptUpTo}
+use Rattle.loop_file.specs.declared.notes.LoopNote.{LoopNote}
+use Rattle.loop_file.specs.Kept.{noted_loops}
+use Rattle.loop_file.specs.Loops.{read_loops}
 use Rattle.loop_versions.specs.declared.pieces.Piece.{Piece}
 use Rattle.loop_versions.specs.declared.pieces.Site.{Site}
 use Rattle.loop_versions.specs.Follows.{FollowsVersioned, GoesBack, StaysOutside}
 use Rattle.loop_versions.specs.Made.{IsVersioned}
 use Rattle.version_laws.specs.Exits.{ExitsAlike}
-use Rattle.pace_tool.specs.Command.{Command, Fit, Loops, InOne}
+use Rattle.pace_tool.specs.Command.{Command, Fit, FitVersions, Loops, InOne}
 use Rattle.pace_tool.specs.InOne.{MakesPlain}
 use Rattle.pace_tool.specs.Drafts.{Drafts, IsDraftedSafely}
 
@@ -50,6 +54,35 @@ pub record IsVersionedSafely (plain tried : List ℕ) : Type 0 where
   pub goes_back : (most : Option ℕ) (draft : LoopDraft) → IsDrafted plain most (Ok draft) → draft.returns ≡ true →
       (levels : ℕ) (input : List ℕ) (n : ℕ) → AreBytes input → GoesBack image versioned pieces sites base levels input n
 
+-- A file is a versioned image of another one, which has a loop file, and has one of its own. Where that exits at the end of a run that keeps its loop file, so does it, with the same
+-- status and output, at the end of a run that keeps its own; but for the steps at sites, bridges and guards, and those that fill x1 for an inlined call, its steps are of the same
+-- classes.
+pub record IsVersionKept (plain loops tried own : List ℕ) : Type 0 where
+  pub image : Image
+  pub versioned : Image
+  pub pieces : List Piece
+  pub sites : List Site
+  pub base : ℕ
+  pub olds : List LoopNote
+  pub notes : List LoopNote
+  pub is_read : image_of plain ≡ Ok image
+  pub is_versioned : IsVersioned image versioned pieces sites base
+  pub file : versioned.file ≡ tried
+  pub olds_are : read_loops image loops ≡ Ok olds
+  pub notes_are : read_loops versioned own ≡ Ok notes
+  pub kept : (levels : ℕ) (input : List ℕ) (n status : ℕ) → AreBytes input → IsKeptUpTo image levels input (noted_loops olds) n →
+      (run_of image levels input n).standing ≡ HasExited status →
+      (m : ℕ) × ExitsAlike image versioned pieces sites base status (run_of image levels input n) (run_of versioned levels input m) ×
+      IsKeptUpTo versioned levels input (noted_loops notes) m
+
+-- What `fit` promises where versions are tried: OUT has a choice that is fitted to the program with its loop file, or to a version of it with a loop file of its own, which keeps it where
+-- the program keeps its own; and the choice keeps what `fit` promises of it.
+pub record IsFittedWithVersions (image machine loops : List ℕ) (inputs : List (List ℕ)) (out : Option (List ℕ)) : Type 0 where
+  pub tried : List ℕ
+  pub own : List ℕ
+  pub is_tried : ((tried ≡ image) × (own ≡ loops)) ⊎ IsVersionKept image loops tried own
+  pub fitted : StoredPromise (FitsAny tried machine own inputs) (IsFittedSafely tried machine own) out
+
 -- the image that is fitted is the one that goes on, or, where versions are tried, one of it that follows it
 abbrev pub IsTriedSafely : Bool → (plain tried : List ℕ) → Type 0
 IsTriedSafely false plain tried = tried ≡ plain
@@ -77,7 +110,7 @@ pub record IsFittedInOne (image machine : List ℕ) (most : Option ℕ) (inputs 
 -- What a command promises beside its answer, by the files that it loaded and those that stand afterwards. Of `fit`: on every input on which the original run exits and keeps the
 -- loops' bounds and the return addresses, the stored image gives the same output and the same exit status, ends by the deadline, never raises its level, takes no more energy than
 -- its own cycles at its starting level would, and adds at most the printed number of cycles; and its runs on the inputs that count take no more energy than those of the image
--- that `hold` stores. Of `loops`: the stored file isn't too long to be loaded; where it prints that no loop is open, that is a loop file of the image, with as many loops as it
+-- that `hold` stores. Of `fit` where versions are tried: `IsFittedWithVersions`. Of `loops`: the stored file isn't too long to be loaded; where it prints that no loop is open, that is a loop file of the image, with as many loops as it
 -- prints; where it prints that all loops are proved as well, every run on every input keeps that file as long as its returns go back to their calls; where it prints that returns
 -- are proved, those of every run on every input do, so that then every run keeps that file, and whatever is promised of runs that keep it; else no run breaks a bound of it before
 -- it breaks one that was written in by hand, or a return address; and where it prints that nothing is irreducible, the loops are taken. With a limit of inputs, what is promised of
@@ -87,6 +120,7 @@ pub record IsFittedInOne (image machine : List ℕ) (most : Option ℕ) (inputs 
 abbrev pub Promise : Command → List (List ℕ) → Files → Type 0
 Promise (Fit image machine loops out inputs) (i ∷ m ∷ l ∷ given) after = StoredPromise (FitsAny i m l given) (IsFittedSafely i m l)
     (get after out)
+Promise (FitVersions image machine loops out inputs) (i ∷ m ∷ l ∷ given) after = IsFittedWithVersions i m l given (get after out)
 Promise (Loops image out most inputs) (i ∷ given) after = StoredPromise (Drafts i most) (IsDraftedSafely i most) (get after out)
 Promise (InOne image machine out versions most inputs) (i ∷ m ∷ given) after = IsFittedInOne i m most given versions (get after out)
 Promise command files after = Unit {0}

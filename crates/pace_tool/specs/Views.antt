@@ -8,7 +8,7 @@ use Rattle.pace_tool.specs.declared.command.Fit.{Fit as ParsedFit}
 use Rattle.pace_tool.specs.declared.command.InOne.{InOne as ParsedInOne}
 use Rattle.pace_tool.specs.declared.command.Job.{Job}
 use Rattle.pace_tool.specs.declared.command.Job.TheVariants as job
-use Rattle.pace_tool.specs.Command.{Command, Fit, Show, Loops, Explain, DrawRun, DrawPlan, Jumps, InOne}
+use Rattle.pace_tool.specs.Command.{Command, Fit, FitVersions, Show, Loops, Explain, DrawRun, DrawPlan, Jumps, InOne}
 
 -- words as texts
 abbrev pub texts : List (Bor (List ℕ)) → List (List ℕ)
@@ -20,12 +20,16 @@ want_view want = (want.name.now, want.limit)
 abbrev pub fit_view : ParsedFit → Command
 fit_view fit = Fit fit.program.image.now fit.program.machine.now fit.program.loops.now fit.out.now (texts fit.inputs.names.now)
 
+abbrev pub versions_view : ParsedFit → Command
+versions_view fit = FitVersions fit.program.image.now fit.program.machine.now fit.program.loops.now fit.out.now (texts fit.inputs.names.now)
+
 abbrev pub in_one_view : ParsedInOne → Command
 in_one_view command =
     InOne command.image.now command.machine.now command.out.now command.versions command.limit.most (texts command.inputs.names.now)
 
 abbrev pub command_view : Job → Command
 command_view (job.Fit fit) = fit_view fit
+command_view (job.FitVersions fit) = versions_view fit
 command_view (job.Show program) = Show program.image.now program.machine.now program.loops.now
 command_view (job.Loops loops) = Loops loops.image.now loops.out.now loops.limit.most (texts loops.inputs.names.now)
 command_view (job.Explain program) = Explain program.image.now program.machine.now program.loops.now

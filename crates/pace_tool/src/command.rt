@@ -74,6 +74,8 @@ pub struct InOne<'a> {
 #[derive(Clone, Copy)]
 pub enum Job<'a> {
     Fit(Fit<'a>),
+    /// The same, where versions are tried: images in which code is there twice.
+    FitVersions(Fit<'a>),
     /// It prints what keeps the level of a program from being lowered.
     Show(Program<'a>),
     Loops(Loops<'a>),
@@ -102,6 +104,7 @@ fn want_at<'a>(command: &Job<'a>, number: usize) -> Option<Want<'a>>
 {
     match *command {
         Job::Fit(fit) => program_want(fit.program, fit.inputs.names, number),
+        Job::FitVersions(fit) => program_want(fit.program, fit.inputs.names, number),
         Job::Show(program) => program_want(program, &[], number),
         Job::Loops(loops) => image_want(
             loops.image,
@@ -256,6 +259,7 @@ pub fn loaded_name<'a>(command: &Job<'a>, number: usize) -> Option<&'a str>
 pub fn stored_name<'a>(command: &Job<'a>) -> Option<&'a str> {
     match *command {
         Job::Fit(fit) => Some(fit.out),
+        Job::FitVersions(fit) => Some(fit.out),
         Job::Show(_) => None,
         Job::Loops(loops) => Some(loops.out),
         Job::Explain(_) => None,

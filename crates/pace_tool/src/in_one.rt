@@ -1,6 +1,6 @@
 //! What `all` gives for its files.
 
-ghost use Rattle.std.specs.Prelude.{◌≡◌, ◌<◌, ◌≤◌, ◌++◌, length, string_bytes, true, IfOk, IfSome, OnOk};
+ghost use Rattle.std.specs.Prelude.{◌≡◌, ◌<◌, ◌≤◌, ◌++◌, length, string_bytes, true, None, IfOk, IfSome, OnOk};
 ghost use Rattle.std.specs.List.{AllZip};
 ghost use Rattle.scale_base.specs.declared.limits.TheConstants.{FILE_LIMIT};
 ghost use Rattle.loop_drafts.specs.Kept.{AreBytes};
@@ -68,8 +68,8 @@ fn open_reply(alloc: Global, mut text: String, draft: &LoopDraft) -> Result<Repl
     })
 }
 
-// The reply with a text before its own, unless it is a refusal.
-fn told_behind(mut text: String, reply: Reply) -> Result<Reply, NoMemory>
+/// The reply with a text before its own, unless it is a refusal.
+pub fn told_behind(mut text: String, reply: Reply) -> Result<Reply, NoMemory>
     ensures { IfOk result (λ told. reply_view told ≡ behind (string_bytes text) (reply_view reply)) }
 {
     if reply.status != 0 {
@@ -161,7 +161,7 @@ fn version_of<P: Progress>(
     image: &[u8],
     progress: &mut P,
 ) -> Result<Option<ChosenVersion>, NoMemory>
-    ensures { IfOk result (λ chosen. IfSome chosen (IsChosenVersion image.now goal.now.machine.now goal.now.most
+    ensures { IfOk result (λ chosen. IfSome chosen (IsChosenVersion image.now goal.now.machine.now goal.now.most None
         (files_view goal.now.inputs.items.now))) }
 {
     if image.len() > IMAGE_LIMIT {
@@ -171,6 +171,7 @@ fn version_of<P: Progress>(
         machine: goal.machine,
         inputs: goal.inputs.items,
         most: goal.most,
+        given: None,
     };
     choose_version(alloc, &to, image, progress)
 }
@@ -183,7 +184,7 @@ fn version_reply<P: Progress>(
     chosen: &ChosenVersion,
     progress: &mut P,
 ) -> Result<Reply, NoMemory>
-    requires { IsChosenVersion fitting.now.image.now fitting.now.goal.now.machine.now fitting.now.goal.now.most
+    requires { IsChosenVersion fitting.now.image.now fitting.now.goal.now.machine.now fitting.now.goal.now.most None
         (files_view fitting.now.goal.now.inputs.items.now) chosen.now }
     ensures { IfOk result (λ reply. MakesOfPlain fitting.now.goal.now.machine.now fitting.now.goal.now.out.now fitting.now.goal.now.most
         (files_view fitting.now.goal.now.inputs.items.now) true (Ok (fitting.now.image.now, string_bytes text)) (reply_view reply)) }

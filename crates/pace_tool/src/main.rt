@@ -20,6 +20,7 @@ mod plain;
 mod replies;
 mod show;
 mod texts;
+mod versions;
 mod words;
 
 use clap::error::ErrorKind;

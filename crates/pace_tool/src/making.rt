@@ -16,6 +16,7 @@ use crate::in_one::in_one_made;
 use crate::jumps::jumps_reply;
 use crate::loops::loops_reply;
 use crate::show::show_reply;
+use crate::versions::versions_made;
 use host_runs::{FileCommand, ProgramFiles, Reply, Want};
 use loop_drafts::DraftInputs;
 use run_progress::Progress;
@@ -35,6 +36,7 @@ fn made_of<P: Progress>(
 {
     match command {
         Job::Fit(fit) => fit_made(alloc, fit, files, progress),
+        Job::FitVersions(fit) => versions_made(alloc, fit, files, progress),
         Job::Show(_) => show_reply(alloc, &ProgramFiles::of(files)),
         Job::Loops(loops) => {
             let inputs = DraftInputs {

@@ -76,7 +76,13 @@ fn fit_line<'a>(alloc: Global) -> Result<CommandLine<'a>, AllocError> {
         "Stores the image of a program whose switches of speed save the most energy on its inputs",
     )?
     .arg(required(alloc, "OUT", "The name of the image that is stored"))?
-    .arg(inputs(alloc, "Up to 64 inputs that the program is fitted to"))
+    .arg(inputs(alloc, "Up to 64 inputs that the program is fitted to"))?
+    .arg(
+        Arg::new(alloc, "versions")
+            .long("versions")
+            .action(ArgAction::SetTrue)
+            .help("Tries images in which code is there twice, for few turns of loops and for many"),
+    )
 }
 
 fn show_line<'a>(alloc: Global) -> Result<CommandLine<'a>, AllocError> {
@@ -195,7 +201,7 @@ pub fn matches_of<'a>(alloc: Global, words: &'a [String]) -> Result<ArgMatches<'
 pub fn command_of<'m>(matches: &'m ArgMatches<'_>) -> Option<Job<'m>> {
     let (name, given) = matches.subcommand()?;
     match name {
-        "fit" => Some(Job::Fit(fit_of(given)?)),
+        "fit" => Some(fit_job(given)?),
         "show" => Some(Job::Show(program_of(given)?)),
         "loops" => Some(Job::Loops(loops_of(given)?)),
         "explain" => Some(Job::Explain(program_of(given)?)),
@@ -240,6 +246,15 @@ fn fit_of<'m>(given: &'m ArgMatches<'_>) -> Option<Fit<'m>> {
         out: given.get_str("OUT")?,
         inputs: inputs_of(given)?,
     })
+}
+
+fn fit_job<'m>(given: &'m ArgMatches<'_>) -> Option<Job<'m>> {
+    let fit = fit_of(given)?;
+    if given.get_flag("versions") {
+        Some(Job::FitVersions(fit))
+    } else {
+        Some(Job::Fit(fit))
+    }
 }
 
 // Where an image has no input, nothing.

@@ -1,6 +1,7 @@
--- What an image takes that is fitted with a draft of its loops as its loop file, for inputs of so many bytes at most, where that is told, and when one of its
--- versions is chosen.
-use Rattle.std.specs.Prelude.{◌≡◌, ℕ, ◌<◌, ◌≤◌, Bool, List, map, IfSome, Option, Ok}
+-- What an image takes that is fitted with a draft of its loops as its loop file, for inputs of so many bytes at most, where that is told, or with one that is
+-- given, and when one of its versions is chosen.
+use Rattle.std.specs.Prelude.{◌≡◌, ℕ, ◌<◌, ◌≤◌, Bool, List, length, map, string_bytes, IfSome, Option, Some, None, Ok}
+use Rattle.scale_base.specs.declared.limits.TheConstants.{FILE_LIMIT, IMAGE_LIMIT}
 use Rattle.gain_tuner.specs.Spending.{counts}
 use Rattle.loop_drafts.specs.declared.drafted.LoopDraft.{LoopDraft}
 use Rattle.loop_drafts.specs.Drafted.{IsDrafted}
@@ -8,7 +9,9 @@ use Rattle.loop_drafts.specs.Pieces.{printed}
 use Rattle.paced_images.specs.declared.proposal.Proposal.{Proposal}
 use Rattle.pace_fit.specs.declared.fitting.Fitted.{Fitted}
 use Rattle.pace_fit.specs.Fitting.{IsFitted}
+use Rattle.versioned_images.specs.declared.versions.Version.{Version}
 use Rattle.versioned_images.specs.Versions.{IsVersionOf}
+use Rattle.version_loops.specs.VersionFile.{IsVersionFile}
 use Rattle.version_fits.specs.declared.choosing.Best.{Best}
 use Rattle.version_fits.specs.declared.choosing.ChosenVersion.{ChosenVersion}
 
@@ -26,22 +29,44 @@ pub record IsFitBy (image machine loops : List ℕ) (inputs : List (List ℕ)) (
   pub is_fitted : IsFitted image machine loops inputs proposals stored fitted
   pub counted : flags ≡ map (counts image machine loops) inputs
 
--- the same with a draft of its loops
-abbrev pub IsFitOf : (image machine : List ℕ) → Option ℕ → List (List ℕ) → List Bool → Fitted → Type 0
-IsFitOf image machine most inputs flags fitted = (loops : List ℕ) × IsDraftedFile image most loops ×
-    IsFitBy image machine loops inputs flags fitted
+-- ---- loop files
 
--- The version of an image whose fit takes less than that of the image itself, on the same inputs.
-pub record IsChosenVersion (plain machine : List ℕ) (most : Option ℕ) (inputs : List (List ℕ)) (chosen : ChosenVersion) : Type 0 where
-  pub version : IsVersionOf plain chosen.version
+-- that of a program: the one that is given, or else a draft
+abbrev pub IsLoopFile : (plain : List ℕ) → Option ℕ → (given : Option (List ℕ)) → List ℕ → Type 0
+IsLoopFile plain most None file = IsDraftedFile plain most file
+IsLoopFile plain most (Some loops) file = file ≡ loops
+
+-- and that of a version of it: made by the one that is given, or else a draft
+abbrev pub IsLoopFileOf : (plain : List ℕ) → Option ℕ → (given : Option (List ℕ)) → Version → List ℕ → Type 0
+IsLoopFileOf plain most None version file = IsDraftedFile version.file.items most file
+IsLoopFileOf plain most (Some loops) version file = IsVersionFile plain loops version file
+
+-- ---- fits
+
+-- the numbers of a fit of a program with its loop file
+abbrev pub IsPlainFit : (plain machine : List ℕ) → Option ℕ → Option (List ℕ) → List (List ℕ) → List Bool → Fitted → Type 0
+IsPlainFit plain machine most given inputs flags fitted = (loops : List ℕ) × IsLoopFile plain most given loops ×
+    IsFitBy plain machine loops inputs flags fitted
+
+-- and of a version of it, with a loop file of its own, which can be loaded
+pub record IsVersionFit (plain machine : List ℕ) (most : Option ℕ) (given : Option (List ℕ)) (inputs : List (List ℕ)) (version : Version) (loops : List ℕ)
+    (flags : List Bool) (fitted : Fitted) : Type 0 where
+  pub is_version : IsVersionOf plain version
+  pub is_loop_file : IsLoopFileOf plain most given version loops
+  pub is_fit : IsFitBy version.file.items machine loops inputs flags fitted
+  pub short : length version.file.items ≤ IMAGE_LIMIT
+  pub loops_short : length loops ≤ FILE_LIMIT
+
+-- The version of a program whose fit takes less than that of the program itself, on the same inputs.
+pub record IsChosenVersion (plain machine : List ℕ) (most : Option ℕ) (given : Option (List ℕ)) (inputs : List (List ℕ)) (chosen : ChosenVersion) : Type 0 where
   pub flags : List Bool
-  pub without : IsFitOf plain machine most inputs flags chosen.without
-  pub fitted : IsFitOf chosen.version.file.items machine most inputs flags chosen.fitted
+  pub without : IsPlainFit plain machine most given inputs flags chosen.without
+  pub fitted : IsVersionFit plain machine most given inputs chosen.version (string_bytes chosen.loops) flags chosen.fitted
   pub less : chosen.fitted.energy < chosen.without.energy
 
 -- the least fit so far, of a program that takes so much itself
-pub record IsBest (plain machine : List ℕ) (most : Option ℕ) (inputs : List (List ℕ)) (without : Fitted) (best : Best) : Type 0 where
-  pub itself : IsFitOf plain machine most inputs best.fit.flags.items without
+pub record IsBest (plain machine : List ℕ) (most : Option ℕ) (given : Option (List ℕ)) (inputs : List (List ℕ)) (without : Fitted) (best : Best) : Type 0 where
+  pub itself : IsPlainFit plain machine most given inputs best.fit.flags.items without
   pub least : best.fit.fitted.energy ≤ without.energy
-  pub chosen : IfSome best.version (λ version. IsVersionOf plain version ×
-      IsFitOf version.file.items machine most inputs best.fit.flags.items best.fit.fitted × (best.fit.fitted.energy < without.energy))
+  pub chosen : IfSome best.version (λ tried. IsVersionFit plain machine most given inputs tried.version (string_bytes tried.loops) best.fit.flags.items best.fit.fitted ×
+      (best.fit.fitted.energy < without.energy))

@@ -1,21 +1,24 @@
 //! The version by which a program takes less energy.
 
-ghost use Rattle.std.specs.Prelude.{◌≡◌, ◌<◌, ◌≤◌, length, map, true, IfOk, IfSome};
+ghost use Rattle.std.specs.Prelude.{◌≡◌, ◌<◌, ◌≤◌, length, true, None, IfOk, IfSome};
 ghost use Rattle.std.specs.List.{All};
 ghost use Rattle.versioned_images.specs.Versions.{IsVersionOf};
-ghost use Rattle.version_fits.specs.Chosen.{IsBest, IsChosenVersion, IsDraftedFile, IsFitOf};
+ghost use Rattle.version_fits.specs.Goals.{IsBest, IsChosenVersion, IsLoopFile, IsPlainFit};
 
-use crate::fits::{Fit, FitGoal, drafted_file, fit_file, fit_image};
+use crate::fits::{Fit, VersionFit, fit_file, fit_version};
+use crate::goal::FitGoal;
+use crate::loop_files::drafted_file;
 use pace_fit::Fitted;
 use run_progress::Progress;
 use scale_base::{FILE_LIMIT, IMAGE_LIMIT, NoMemory};
 use std::alloc::Global;
 use versioned_images::{Version, find_versions};
 
-/// A version of a program, and the numbers of a fit of the program without it and of one with it.
+/// A version of a program with its loop file, and the numbers of a fit of the program without it and of one with it.
 #[derive(Drop)]
 pub struct ChosenVersion {
     pub version: Version,
+    pub loops: String,
     pub without: Fitted,
     pub fitted: Fitted,
 }
@@ -46,10 +49,17 @@ fn saves_enough(fit: &Fit, held: u128) -> bool {
     fit.fitted.energy <= held.saturating_sub(held / 25)
 }
 
+// A version with its loop file.
+#[derive(Drop)]
+struct Tried {
+    version: Version,
+    loops: String,
+}
+
 // The fit that is chosen so far, and the version that it is of, if it isn't that of the program itself.
 #[derive(Drop)]
 struct Best {
-    version: Option<Version>,
+    version: Option<Tried>,
     fit: Fit,
 }
 
@@ -69,16 +79,15 @@ fn try_version<P: Progress>(
     version: Version,
     progress: &mut P,
 ) -> Result<Best, NoMemory>
-    requires best { IsBest plain.now.image.now plain.now.goal.now.machine.now plain.now.goal.now.most
-        (map (λ input. input.items) plain.now.goal.now.inputs.now) plain.now.fitted best }
+    requires best { IsBest plain.now.goal.now plain.now.image.now plain.now.fitted best }
     requires version { IsVersionOf plain.now.image.now version }
-    ensures { IfOk result (IsBest plain.now.image.now plain.now.goal.now.machine.now plain.now.goal.now.most
-        (map (λ input. input.items) plain.now.goal.now.inputs.now) plain.now.fitted) }
+    ensures { IfOk result (IsBest plain.now.goal.now plain.now.image.now plain.now.fitted) }
 {
-    if let Some(fit) = fit_image(alloc, plain.goal, &version.file, progress)? {
+    let made = fit_version(alloc, plain.goal, plain.image, &version, progress)?;
+    if let Some(VersionFit { loops, fit }) = made {
         if saves_enough(&fit, plain.fitted.hold_energy) && takes_less(&fit, &best.fit) {
             return Ok(Best {
-                version: Some(version),
+                version: Some(Tried { version, loops }),
                 fit,
             });
         }
@@ -94,12 +103,10 @@ fn best_of<P: Progress>(
     versions: Vec<Version>,
     progress: &mut P,
 ) -> Result<Best, NoMemory>
-    requires first { IsFitOf plain.now.image.now plain.now.goal.now.machine.now plain.now.goal.now.most
-        (map (λ input. input.items) plain.now.goal.now.inputs.now) first.flags.items plain.now.fitted }
+    requires first { IsPlainFit plain.now.goal.now plain.now.image.now first.flags.items plain.now.fitted }
     requires least { first.fitted.energy ≤ plain.now.fitted.energy }
     requires versions { All (IsVersionOf plain.now.image.now) versions.items }
-    ensures { IfOk result (IsBest plain.now.image.now plain.now.goal.now.machine.now plain.now.goal.now.most
-        (map (λ input. input.items) plain.now.goal.now.inputs.now) plain.now.fitted) }
+    ensures { IfOk result (IsBest plain.now.goal.now plain.now.image.now plain.now.fitted) }
 {
     let mut best = Best {
         version: None,
@@ -119,17 +126,16 @@ fn chosen_of<P: Progress>(
     versions: Vec<Version>,
     progress: &mut P,
 ) -> Result<Option<ChosenVersion>, NoMemory>
-    requires first { IsFitOf plain.now.image.now plain.now.goal.now.machine.now plain.now.goal.now.most
-        (map (λ input. input.items) plain.now.goal.now.inputs.now) first.flags.items plain.now.fitted }
+    requires first { IsPlainFit plain.now.goal.now plain.now.image.now first.flags.items plain.now.fitted }
     requires least { first.fitted.energy ≤ plain.now.fitted.energy }
     requires versions { All (IsVersionOf plain.now.image.now) versions.items }
-    ensures { IfOk result (λ chosen. IfSome chosen (IsChosenVersion plain.now.image.now plain.now.goal.now.machine.now
-        plain.now.goal.now.most (map (λ input. input.items) plain.now.goal.now.inputs.now))) }
+    ensures { IfOk result (λ chosen. IfSome chosen (IsChosenVersion plain.now.goal.now plain.now.image.now)) }
 {
     let Best { version, fit } = best_of(alloc, plain, first, versions, progress)?;
     match version {
-        Some(version) => Ok(Some(ChosenVersion {
+        Some(Tried { version, loops }) => Ok(Some(ChosenVersion {
             version,
+            loops,
             without: plain.fitted,
             fitted: fit.fitted,
         })),
@@ -147,9 +153,8 @@ fn choose_by<P: Progress>(
 ) -> Result<Option<ChosenVersion>, NoMemory>
     requires plain { length plain.now ≤ IMAGE_LIMIT }
     requires short { length loops.now ≤ FILE_LIMIT }
-    requires loops { IsDraftedFile plain.now goal.now.most loops.now }
-    ensures { IfOk result (λ chosen. IfSome chosen (IsChosenVersion plain.now goal.now.machine.now goal.now.most
-        (map (λ input. input.items) goal.now.inputs.now))) }
+    requires loops { IsLoopFile goal.now plain.now loops.now }
+    ensures { IfOk result (λ chosen. IfSome chosen (IsChosenVersion goal.now plain.now)) }
 {
     let versions = find_versions(alloc, plain, loops)?;
     if versions.is_empty() {
@@ -168,10 +173,28 @@ fn choose_by<P: Progress>(
     }
 }
 
+// The same with a draft of its loop file.
+fn choose_drafted<P: Progress>(
+    alloc: Global,
+    goal: &FitGoal<'_>,
+    plain: &[u8],
+    progress: &mut P,
+) -> Result<Option<ChosenVersion>, NoMemory>
+    requires plain { length plain.now ≤ IMAGE_LIMIT }
+    requires none { goal.now.given ≡ None }
+    ensures { IfOk result (λ chosen. IfSome chosen (IsChosenVersion goal.now plain.now)) }
+{
+    match drafted_file(alloc, goal, plain, progress)? {
+        Some(file) => choose_by(alloc, goal, plain, file.as_bytes(), progress),
+        None => Ok(None),
+    }
+}
+
 /// A version by which a program takes less energy on the inputs that count, by more than a sixty-fourth, and 40 thousandths less than its image at one level:
 /// of those that are tried the last one of which this is so against all before it. None where no version takes so much less than the program itself, where a
-/// loop of it is open, or where something refuses it. Each is fitted with a draft of its loops as its loop file. A version is left out where a loop of it is
-/// open, or where other inputs count. Which versions are tried isn't promised: at most 8. How far the runs are is told.
+/// loop of it is open, or where something refuses it. Each is fitted with a loop file: the program with the one that is given, a version with one that is made
+/// by that; or else each with a draft of its loops. A version is left out where it has no such file, where a loop of its draft is open, or where other inputs
+/// count. Which versions are tried isn't promised: at most 8. How far the runs are is told.
 pub fn choose_version<P: Progress>(
     alloc: Global,
     goal: &FitGoal<'_>,
@@ -179,11 +202,10 @@ pub fn choose_version<P: Progress>(
     progress: &mut P,
 ) -> Result<Option<ChosenVersion>, NoMemory>
     requires { length plain.now ≤ IMAGE_LIMIT }
-    ensures { IfOk result (λ chosen. IfSome chosen (IsChosenVersion plain.now goal.now.machine.now goal.now.most
-        (map (λ input. input.items) goal.now.inputs.now))) }
+    ensures { IfOk result (λ chosen. IfSome chosen (IsChosenVersion goal.now plain.now)) }
 {
-    match drafted_file(alloc, goal, plain, progress)? {
-        Some(file) => choose_by(alloc, goal, plain, file.as_bytes(), progress),
-        None => Ok(None),
+    match goal.given {
+        Some(loops) => choose_by(alloc, goal, plain, loops, progress),
+        None => choose_drafted(alloc, goal, plain, progress),
     }
 }

@@ -8,6 +8,8 @@ mod calls;
 #[cfg(test)]
 mod copies;
 #[cfg(test)]
+mod files;
+#[cfg(test)]
 mod programs;
 #[cfg(test)]
 mod proposals;

@@ -6,8 +6,8 @@ use std::fmt::Write;
 use std::test::Fail;
 use versioned_images::{Version, find_versions};
 
-// A loop file with the program's loop and a bound of 40.
-fn loops_of(alloc: Global, program: &Looping) -> Result<String, Fail> {
+/// A loop file with the program's loop and a bound of 40.
+pub fn loops_of(alloc: Global, program: &Looping) -> Result<String, Fail> {
     let header = address_of(program.header);
     let from = address_of(program.from);
     let to = address_of(program.to);

@@ -17,17 +17,16 @@ pieces_len (p ∷ ps) = 4 * piece_len p + pieces_len ps
 abbrev pub IsOpen : Image → Type 0
 IsOpen image = (length image.file ≤ IMAGE_LIMIT) × (is_full image.file ≡ false) × (image.keyed_segment ≡ None)
 
--- the file of a versioned image of an image, with these pieces and sites, which have so many instructions
-pub record IsVersionedBy (image : Image) (pieces : List Piece) (sites : List Site) (made : List ℕ) (words : ℕ) : Type 0 where
+-- the file of a versioned image of an image, with these pieces and sites from a base on, which have so many instructions
+pub record IsVersionedBy (image : Image) (pieces : List Piece) (sites : List Site) (made : List ℕ) (base words : ℕ) : Type 0 where
   pub versioned : Image
-  pub base : ℕ
   pub is_versioned : IsVersioned image versioned pieces sites base
   pub file : versioned.file ≡ made
   pub words_are : words ≡ length (pieces_code image base pieces)
 
 -- there is none, but one whose pieces begin in the last 147,492 bytes of the address space
 abbrev pub HasNone : Image → List Piece → List Site → Type 0
-HasNone image pieces sites = (made : List ℕ) (words : ℕ) (by : IsVersionedBy image pieces sites made words) → 4294819804 ≤ by.base
+HasNone image pieces sites = (made : List ℕ) (base words : ℕ) → IsVersionedBy image pieces sites made base words → 4294819804 ≤ base
 
 -- over the bytes of both files
 pub record IsVersionedFile (plain made : List ℕ) : Type 0 where

@@ -9,7 +9,7 @@ use crate::proposing::{candidates_of, order_of};
 use crate::versions::{Made, Version};
 use elf_image::ImageView;
 use elf_view::read_image;
-use loop_versions::Piece;
+use loop_versions::{Piece, Site};
 use scale_base::{FILE_LIMIT, IMAGE_LIMIT, NoMemory, Stop};
 use std::alloc::Global;
 use version_search::Candidate;
@@ -39,11 +39,12 @@ fn first_choice(pieces: &[Piece]) -> Option<Piece>
     }
 }
 
-/// A version with what is told of it by its guard.
-fn told(choice: &Piece, made: Made) -> Option<Version>
+/// A version with what is told of it by its guard, and its code.
+fn told(choice: &Piece, made: Made, pieces: Vec<Piece>, sites: Vec<Site>) -> Option<Version>
     ensures told { IfSome result (λ version. (to : ℕ) × (choice.now ≡ Guard version.header version.larger version.smaller version.limit
         to)) }
-    ensures made { IfSome result (λ version. (version.file.items ≡ made.file.items) × (version.words ≡ made.words)) }
+    ensures made { IfSome result (λ version. (version.file.items ≡ made.file.items) × (version.words ≡ made.words) × (version.base ≡ made.base)) }
+    ensures code { IfSome result (λ version. (version.pieces ≡ pieces) × (version.sites ≡ sites)) }
 {
     match *choice {
         Piece::Guard {
@@ -58,6 +59,9 @@ fn told(choice: &Piece, made: Made) -> Option<Version>
             smaller,
             limit: u32::from(limit),
             words: made.words,
+            base: made.base,
+            pieces,
+            sites,
             file: made.file,
         }),
         _ => None,
@@ -77,7 +81,11 @@ fn version_of(
         return Ok(None);
     };
     match versioned(alloc, view, &candidate.pieces, &candidate.sites)? {
-        Some(made) => Ok(told(&choice, made)),
+        Some(made) => {
+            let pieces = candidate.pieces.to_vec(alloc)?;
+            let sites = candidate.sites.to_vec(alloc)?;
+            Ok(told(&choice, made, pieces, sites))
+        }
         None => Ok(None),
     }
 }

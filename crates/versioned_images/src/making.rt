@@ -147,7 +147,7 @@ fn versioned_at(
     requires few { length pieces.now ≤ 4096 }
     requires room { base < 4294819804 }
     requires place { IsStubBase view.now (versions.pieces_len pieces.now) base }
-    ensures made { IfOk result (λ given. IfSome given (λ made. IsVersionedBy view.now pieces.now sites.now made.file.items made.words)) }
+    ensures made { IfOk result (λ given. IfSome given (λ made. IsVersionedBy view.now pieces.now sites.now made.file.items made.base made.words)) }
     ensures none { IfOk result (λ given. IfNone given (HasNone view.now pieces.now sites.now)) }
 {
     are_bytes(view.file());
@@ -160,7 +160,7 @@ fn versioned_at(
         return Ok(None);
     }
     let words = pieces_len(pieces) / 4;
-    Ok(Some(Made { file, words }))
+    Ok(Some(Made { file, base, words }))
 }
 
 /// The file of the image with these pieces and sites, and how many instructions the pieces have. They stand at the lowest base that has room
@@ -172,7 +172,7 @@ pub fn versioned(
     pieces: &[Piece],
     sites: &[Site],
 ) -> Result<Option<Made>, NoMemory>
-    ensures made { IfOk result (λ given. IfSome given (λ made. IsVersionedBy view.now pieces.now sites.now made.file.items made.words)) }
+    ensures made { IfOk result (λ given. IfSome given (λ made. IsVersionedBy view.now pieces.now sites.now made.file.items made.base made.words)) }
     ensures none { IfOk result (λ given. IfNone given (HasNone view.now pieces.now sites.now)) }
 {
     if !is_open(view) {

@@ -1,7 +1,7 @@
 use Rattle.std.proofs.Common.{◌∙◌, ap, length, arith}
 use Rattle.loop_drafts.specs.Pieces.{printed}
 use Rattle.version_fits.proofs.Printed.{printed_short}
-use Rattle.version_fits.proofs.fits.drafted_file.Goals as goal
+use Rattle.version_fits.proofs.loop_files.drafted_file.Goals as goal
 
 pub returns-in-Ok-clause-drafted : goal.returns-in-Ok-clause-drafted
 returns-in-Ok-clause-drafted g c =

@@ -1,0 +1,5 @@
+mod Bounds
+mod Covered
+mod Law
+mod Stops
+pub mod Laws

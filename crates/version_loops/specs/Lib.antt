@@ -1,0 +1,2 @@
+pub mod VersionFile
+pub mod Checked
