@@ -4,6 +4,7 @@ ghost use Rattle.std.specs.Prelude.{◌<◌};
 
 use crate::arcs::{fewer, joined, shorter};
 use crate::cells::{Cells, Place, loaded_place, loaded_values, stored_number};
+use crate::fixed::has_fixed;
 use crate::growing::Growth;
 use crate::tables::Row;
 use elf_image::ImageView;
@@ -122,7 +123,7 @@ pub fn look_at_memory(growth: &mut Growth<'_>, k: usize) -> Result<(), NoMemory>
     };
     let loaded = loaded_place(node.instr, &facts.row);
     let stored = stored_number(node.instr, &facts.row);
-    if let Some(place) = loaded {
+    if let Some(place) = loaded.filter(|place| !has_fixed(growth.fixed, *place)) {
         if let Some(number) = number_of(growth, place)? {
             growth.cells.note_load(k, number)?;
         }
