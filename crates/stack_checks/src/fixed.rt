@@ -12,7 +12,7 @@ ghost use Rattle.stack_laws.specs.Fixed.{AreFixedIn, AreUnwritten, GivesFixed};
 ghost use Rattle.stack_laws.specs.Stacks as stacks;
 ghost use Rattle.wrapped_intervals.specs.Small.{IsKept, IsKeptOr};
 ghost use Rattle.stack_tables.specs.Tables.{IsStackClaim, fixed_in, has_address, stacks_in};
-ghost use Rattle.stack_checks.specs.Checked.{GivesAt, HasBytes, IsApartFrom, IsFixedPart, IsUnwrittenIn, IsWay, from, stacks_along, to, values_along};
+ghost use Rattle.stack_checks.specs.Checked.{GivesAt, HasBytes, IsApartFrom, IsFixedPart, IsGiven, IsUnwrittenIn, IsWay, from, stacks_along, to, values_along};
 
 use crate::cells::Loading;
 use crate::memory::byte_at;
