@@ -1,5 +1,5 @@
 -- A step keeps the bytes that may not be written, and what a load of fixed bytes gives.
-use Rattle.std.proofs.Common.{◌≡◌, ℕ, ◌%◌, false, ⊎_elim, List, refl, subst, sym, ◌∙◌, Option, Some, None}
+use Rattle.std.proofs.Common.{◌≡◌, ℕ, ◌%◌, false, ⊎_elim, List, subst, sym, ◌∙◌, Option, Some}
 use Rattle.std.specs.Prelude.{ℤ, ◌==◌, not}
 use Rattle.std.proofs.lemmas.Bool.{cond_both, eqb-true, not-false}
 use Rattle.scale_base.specs.declared.instruction.LoadOp.{LoadOp}
@@ -13,7 +13,7 @@ use Rattle.scale_base.specs.Arith.{moved_by, unsigned, load_width, loaded}
 use Rattle.scale_base.specs.State.{Setting, State, reg, word_at}
 use Rattle.scale_base.specs.Step.{Outcome, loads, performs, step}
 use Rattle.graph_runs.proofs.Laws.{IsTrap, IsDone, step_done}
-use Rattle.bound_laws.specs.Values.{IsHeld, held, sum_with, Values}
+use Rattle.bound_laws.specs.Values.{IsHeld, held, Values}
 use Rattle.bound_laws.proofs.Laws.{step_of, sum_with_in}
 use Rattle.stack_laws.specs.Fixed.{AreFixedIn, AreUnwritten}
 use Rattle.stack_laws.specs.Stacks.{Stacks, IsFixedLoaded}
