@@ -65,7 +65,7 @@ fn number_of(place: Arc, n: u64) -> u32
 
 // How many of its strides the last number of an interval is behind the first, at most.
 fn steps_of(place: Arc) -> u64
-    ensures { (n : ℕ) → place.stride * n ≤ place.more → place.stride * n ≡ place.stride * 0 ⊎ n ≤ result }
+    ensures { (n : ℕ) → 0 < place.stride → place.stride * n ≤ place.more → n ≤ result }
 {
     if place.stride() == 0 {
         0
@@ -142,23 +142,26 @@ fn is_apart(span: Span, part: &FixedPart) -> bool
     let from = u64::from(part.from);
     let end = from + part.bytes.len() as u64;
     let first = u64::from(span.from);
-    end <= first || first + u64::from(span.len) <= from
+    if end <= first {
+        return true;
+    }
+    first + u64::from(span.len) <= from
 }
 
 // Whether no address of a part is one of a segment's that may be written.
 fn is_unwritten_in(segment: &Segment<'_>, part: &FixedPart) -> bool
     ensures { result ≡ true → IsUnwrittenIn (segment_value segment.now) part.now }
 {
-    if segment.flags & PF_W == 0 {
-        return true;
+    if segment.flags & PF_W != 0 {
+        return is_apart(
+            Span {
+                from: segment.from,
+                len: segment.len,
+            },
+            part,
+        );
     }
-    is_apart(
-        Span {
-            from: segment.from,
-            len: segment.len,
-        },
-        part,
-    )
+    true
 }
 
 // The same of each segment.

@@ -1,5 +1,7 @@
 //! Bytes that no store changes, since their segment can't be written, and what loads of them give.
 
+ghost use Rattle.std.specs.Prelude.{◌<◌};
+
 use crate::apart::raised;
 use crate::arcs::{WORDS, common_divisor, fewer, kept};
 use crate::cells::Place;
@@ -142,7 +144,9 @@ impl Hulls {
     }
 }
 
-fn load_width(op: LoadOp) -> u32 {
+fn load_width(op: LoadOp) -> u32
+    ensures { 0 < result }
+{
     match op {
         LoadOp::Lb | LoadOp::Lbu => 1,
         LoadOp::Lh | LoadOp::Lhu => 2,

@@ -116,6 +116,17 @@ fn store(growth: &mut Growth<'_>, k: usize, place: Place, stored: Arc) -> Result
     wait_for_loads(growth, number)
 }
 
+// Notes the load of a number at a node, where stores may change it.
+fn load(growth: &mut Growth<'_>, k: usize, place: Place) -> Result<(), NoMemory> {
+    if has_fixed(growth.fixed, place) {
+        return Ok(());
+    }
+    match number_of(growth, place)? {
+        Some(number) => growth.cells.note_load(k, number),
+        None => Ok(()),
+    }
+}
+
 /// Looks at what the instruction at a node loads and stores.
 pub fn look_at_memory(growth: &mut Growth<'_>, k: usize) -> Result<(), NoMemory> {
     let (Some(node), Some(facts)) = (growth.program.node(k), growth.facts.get(k)) else {
@@ -123,10 +134,8 @@ pub fn look_at_memory(growth: &mut Growth<'_>, k: usize) -> Result<(), NoMemory>
     };
     let loaded = loaded_place(node.instr, &facts.row);
     let stored = stored_number(node.instr, &facts.row);
-    if let Some(place) = loaded.filter(|place| !has_fixed(growth.fixed, *place)) {
-        if let Some(number) = number_of(growth, place)? {
-            growth.cells.note_load(k, number)?;
-        }
+    if let Some(place) = loaded {
+        load(growth, k, place)?;
     }
     match stored {
         Some((place, values)) => store(growth, k, place, values),
