@@ -1,9 +1,11 @@
 -- What loads at the addresses of an interval give, and that no store changes the bytes of parts that the image has.
-use Rattle.std.proofs.Common.{◌≡◌, ◌<◌, ◌≤◌, ◌+◌, ◌-◌, ◌*◌, ◌%◌, ◌^◌, ◌×◌, ⊎_elim, get_or, ℕ, zero, suc, Bool, true, false, ◌&&◌, not, List, [], ◌∷◌, length, refl, sym, ap, ◌∙◌, subst, arith, Option, Some, None, cond}
+use Rattle.std.proofs.Common.{◌≡◌, ◌<◌, ◌≤◌, ◌+◌, ◌-◌, ◌*◌, ◌/◌, ◌%◌, ◌^◌, ◌×◌, ⊎_elim, get_or, ℕ, zero, suc, Bool, true, false, ◌&&◌, not, List, [], ◌∷◌, length, refl, sym, ap, ◌∙◌, subst, arith, Option, Some, None, cond}
 use Rattle.std.specs.List.{All, find, list_any, filter}
 use Rattle.std.specs.Prelude.{map, slice_get, slice_index, nat_le, nat_lt}
 use Rattle.std.proofs.lemmas.Bool.{and_parts, and_from, both_ways, cond_both, false_from_ne_true, leb-true, ltb-true, or_from}
+use Rattle.std.proofs.lemmas.Nat.{mul-le}
 use Rattle.std.proofs.lemmas.Option.{get_or_from_slice_get}
+use Rattle.std.proofs.Math.Nat.{le-div_iff_mul-le, mul_comm}
 use Rattle.flow_graph.proofs.Laws.{some_is}
 use Rattle.scale_base.specs.declared.instruction.LoadOp.{LoadOp}
 use Rattle.scale_base.specs.declared.ranges.Span.{Span}
@@ -19,6 +21,14 @@ use Rattle.stack_checks.specs.declared.cells.Loading.{Loading}
 use Rattle.stack_checks.specs.Checked.{GivesAt, HasBytes, IsApartFrom, IsFixedPart, IsUnwrittenIn}
 
 -- ---- loads
+
+-- so many strides are at most as many as fit
+pub strides_within : (n stride more : ℕ) → 0 < stride → stride * n ≤ more → n ≤ more / stride
+strides_within n stride more some within = (le-div_iff_mul-le some).1 (subst (λ (x : ℕ). x ≤ more) (mul_comm stride n) within)
+
+-- they are far below all that is counted
+pub strides_few : (n stride : ℕ) → stride < 2 ^ 32 → n ≤ 2 ^ 11 → stride * n ≤ 2 ^ 32 * 2 ^ 11
+strides_few n stride short few = mul-le stride n (2 ^ 32) (2 ^ 11) (omega arith) few
 
 -- a number of an interval by how far it is behind the first one
 number_at : (low at d : ℕ) → at < 2 ^ 32 → low < 2 ^ 32 → ahead low at ≡ d → (low + d) % 2 ^ 32 ≡ at

@@ -25,7 +25,7 @@ use wrapped_intervals::{Arc, holds, is_kept, sum_with};
 // How many words there are.
 const WORDS: u64 = 4_294_967_296;
 
-// At how many addresses a load is looked at, but for one.
+// At how many addresses a load is looked at, at most.
 const MOST_ADDRESSES: u64 = 1_024;
 
 // How many bytes a load loads.
@@ -81,7 +81,7 @@ fn are_given(loading: &Loading, parts: &[FixedPart], place: Arc) -> bool
     ensures { result ≡ true → GivesFixed (fixed_in parts.now) loading.now.op place loading.now.values }
 {
     let steps = steps_of(place);
-    if steps > MOST_ADDRESSES {
+    if steps >= MOST_ADDRESSES {
         return false;
     }
     for n in 0..steps + 1 {

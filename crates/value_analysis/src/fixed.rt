@@ -13,7 +13,7 @@ use stack_tables::{FixedPart, MOST_PARTS, fixed_byte, fixed_load};
 use std::alloc::Global;
 use wrapped_intervals::Arc;
 
-/// At how many addresses a load is looked at, but for one.
+/// At how many addresses a load is looked at, at most.
 const MOST_ADDRESSES: u64 = 1_024;
 
 /// How many bytes there are in all.
@@ -166,7 +166,7 @@ fn steps_of(place: Arc) -> u64 {
 // What loads at the addresses of an interval give, where all of them are of such bytes.
 fn given_at(parts: &[FixedPart], op: LoadOp, place: Arc) -> Option<Arc> {
     let steps = steps_of(place);
-    if steps > MOST_ADDRESSES {
+    if steps >= MOST_ADDRESSES {
         return None;
     }
     let mut hulls: Option<Hulls> = None;
