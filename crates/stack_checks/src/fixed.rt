@@ -19,7 +19,7 @@ use crate::memory::byte_at;
 use crate::ways::{Way, arc_behind};
 use elf_image::{ImageView, Segment};
 use scale_base::{Instr, LoadOp, PF_W, STACK, Span};
-use stack_tables::{FixedPart, StackClaim, fixed, fixed_load, held_at};
+use stack_tables::{FixedPart, StackClaim, fixed_load, fixed_parts, held_at};
 use wrapped_intervals::{Arc, holds, is_kept, sum_with};
 
 // How many words there are.
@@ -126,7 +126,7 @@ pub fn is_fixed_loaded(way: &Way<'_>, r: u8) -> bool
                     ),
                     values: arc_behind(way, r),
                 };
-                is_given(&loading, fixed(way.claim))
+                is_given(&loading, fixed_parts(way.claim))
             } else {
                 false
             }
@@ -220,5 +220,5 @@ pub fn are_fixed(claim: &StackClaim<'_>) -> bool
     ensures unwritten { result ≡ true → AreUnwritten (layout_of claim.now.view.now) (stacks_in claim.now).fixed }
     ensures fixed { result ≡ true → AreFixedIn (stacks_in claim.now).fixed (loaded_byte claim.now.view.now) }
 {
-    are_parts_fixed(claim.view, fixed(claim))
+    are_parts_fixed(claim.view, fixed_parts(claim))
 }

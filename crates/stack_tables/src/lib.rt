@@ -25,7 +25,7 @@ pub use predicates::{
     is_live_at, is_missed_by, is_restored_by, is_safe_at, line_at, name_at, stored_word, word_at,
 };
 pub use reading::{
-    address, arcs, areas, begins, cells, dwindling, exits, fixed, form, instruction, is_live,
+    address, arcs, areas, begins, cells, dwindling, exits, fixed_parts, form, instruction, is_live,
     is_restored, is_spared, line, lines, name, name_of, span, span_of, told, word, word_count,
 };
 pub use safe::{descending, is_given_back, is_name_safe, is_safe};

@@ -242,7 +242,7 @@ pub fn areas<'a>(claim: &StackClaim<'a>) -> &'a [Arc]
 }
 
 /// The bytes that no store changes.
-pub fn fixed<'a>(claim: &StackClaim<'a>) -> &'a [FixedPart]
+pub fn fixed_parts<'a>(claim: &StackClaim<'a>) -> &'a [FixedPart]
     requires { IsStackClaim claim.now }
     ensures { (at : ℕ) → fixed_in result.now at ≡ (stacks_in claim.now).fixed at }
 {
