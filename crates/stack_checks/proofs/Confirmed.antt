@@ -71,8 +71,6 @@ invariant c is given = record {
   spared_calls = spared_calls;
   spares = spares;
   cells = cells;
-  unwritten = unwritten;
-  fixed = fixed;
 }
   where
     t : Text

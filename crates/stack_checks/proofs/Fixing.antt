@@ -1,5 +1,5 @@
 -- What loads at the addresses of an interval give, and that no store changes the bytes of parts that the image has.
-use Rattle.std.proofs.Common.{◌≡◌, ◌<◌, ◌≤◌, ◌+◌, ◌-◌, ◌*◌, ◌/◌, ◌%◌, ◌^◌, ◌×◌, ⊎_elim, get_or, ℕ, zero, suc, Bool, true, false, ◌&&◌, not, List, [], ◌∷◌, length, refl, sym, ap, ◌∙◌, subst, arith, Option, Some, None, cond}
+use Rattle.std.proofs.Common.{◌≡◌, ◌<◌, ◌≤◌, ◌+◌, ◌-◌, ◌*◌, ◌/◌, ◌%◌, ◌^◌, get_or, ℕ, zero, suc, Bool, true, false, ◌&&◌, not, List, [], ◌∷◌, length, refl, sym, ap, ◌∙◌, subst, arith, Option, Some, None, cond}
 use Rattle.std.specs.List.{All, find, list_any, filter}
 use Rattle.std.specs.Prelude.{map, slice_get, slice_index, nat_le, nat_lt}
 use Rattle.std.proofs.lemmas.Bool.{and_parts, and_from, both_ways, cond_both, false_from_ne_true, leb-true, ltb-true, or_from}
@@ -34,10 +34,13 @@ strides_few n stride short few = mul-le stride n (2 ^ 32) (2 ^ 11) (omega arith)
 number_at : (low at d : ℕ) → at < 2 ^ 32 → low < 2 ^ 32 → ahead low at ≡ d → (low + d) % 2 ^ 32 ≡ at
 number_at low at d word start behind = omega arith
 
+none_of : (n : ℕ) → 0 * n ≡ 0 * 0
+none_of n = omega arith
+
 -- What is so at so many numbers of an interval, a stride from one to the next, is so at all of them.
 pub gives_all : (fixed : ℕ → Option ℕ) (x : Loading) (place : Arc) (steps : ℕ) → ((n : ℕ) → 0 < place.stride → place.stride * n ≤ place.more → n ≤ steps) →
     ((n : ℕ) → n < steps + 1 → GivesAt fixed x ((place.low + place.stride * n) % 2 ^ 32)) → GivesFixed fixed x.op place x.values
-gives_all fixed x place steps last each at inside = subst (GivesAt fixed x) (number_at place.low at (place.stride * number.0) inside.word inside.start (inside.step.1 ∙ number.1.1)) (each number.0 number.1.0)
+gives_all fixed x place steps last each at inside = subst (GivesAt fixed x) (number_at place.low at (place.stride * number.0) inside.word inside.start (inside.step.1 ∙ number.2)) (each number.0 number.1)
   where
     within : place.stride * inside.step.0 ≤ place.more
     within = let e = inside.step.1 in let near = inside.near in omega (arith, e, near)
@@ -46,7 +49,7 @@ gives_all fixed x place steps last each at inside = subst (GivesAt fixed x) (num
     number = by place.stride refl
       where
         by : (stride : ℕ) → place.stride ≡ stride → (n : ℕ) × (n < steps + 1) × (place.stride * inside.step.0 ≡ place.stride * n)
-        by zero none = (0, omega arith, subst (λ (s : ℕ). s * inside.step.0 ≡ s * 0) (sym none) refl)
+        by zero none = (0, omega arith, subst (λ (s : ℕ). s * inside.step.0 ≡ s * 0) (sym none) (none_of inside.step.0))
         by (suc s) some = (inside.step.0, (let few = last inside.step.0 (subst (λ (y : ℕ). 0 < y) (sym some) (omega arith)) within in omega (arith, few)), refl)
 
 -- of the same bytes by other words
@@ -83,22 +86,21 @@ found_so P p (y ∷ xs) all x e = cond_both (p y) (Some y) (find p xs) (λ o. o 
 abbrev writes_at : ℕ → Part → Bool
 writes_at at p = p.writable && in_span p.span at
 
+not_there : (at : ℕ) (s : LoadSegment) → (has s.flags PF_W ≡ true → in_span (addresses_of s) at ≡ false) → writes_at at (part_of s) ≡ false
+not_there at s none = false_from_ne_true (writes_at at (part_of s)) (λ on.
+    let p = and_parts (has s.flags PF_W) (in_span (addresses_of s) at) on in
+    both_ways (in_span (addresses_of s) at) (none p.0) p.1)
+
 no_part : (at : ℕ) (segments : List LoadSegment) → All (λ (s : LoadSegment). has s.flags PF_W ≡ true → in_span (addresses_of s) at ≡ false) segments → list_any (writes_at at) (map part_of (filter is_plain_segment segments)) ≡ false
 no_part at [] all = refl
-no_part at (s ∷ segments) all = cond_both (is_plain_segment s) (s ∷ filter is_plain_segment segments) (filter is_plain_segment segments) (λ (kept : List LoadSegment). list_any (writes_at at) (map part_of kept) ≡ false)
-    (λ plain. or_from (writes_at at (part_of s)) (list_any (writes_at at) (map part_of (filter is_plain_segment segments))) here rest) (λ keyed. rest)
-  where
-    rest : list_any (writes_at at) (map part_of (filter is_plain_segment segments)) ≡ false
-    rest = no_part at segments (λ k d lt. all (suc k) d (omega (arith, lt)))
-
-    here : writes_at at (part_of s) ≡ false
-    here = false_from_ne_true (writes_at at (part_of s)) (λ on.
-        let p = and_parts (has s.flags PF_W) (in_span (addresses_of s) at) on in
-        both_ways (in_span (addresses_of s) at) (all 0 s (omega arith) p.0) p.1)
+no_part at (s ∷ segments) all =
+    let rest : list_any (writes_at at) (map part_of (filter is_plain_segment segments)) ≡ false = no_part at segments (λ k d lt. all (suc k) d (omega (arith, lt))) in
+    cond_both (is_plain_segment s) (s ∷ filter is_plain_segment segments) (filter is_plain_segment segments) (λ (kept : List LoadSegment). list_any (writes_at at) (map part_of kept) ≡ false)
+    (λ plain. or_from (writes_at at (part_of s)) (list_any (writes_at at) (map part_of (filter is_plain_segment segments))) (not_there at s (all 0 s (omega arith))) rest) (λ keyed. rest)
 
 -- each part of a list is one that the image has
 module _ (image : Image) (parts : List FixedPart) (fixed : ℕ → Option ℕ) (same : (at : ℕ) → fixed_in parts at ≡ fixed at) (all : All (IsFixedPart image) parts) where
-  IsFrom : ℕ → ℕ → Type 0
+  abbrev IsFrom : ℕ → ℕ → Type 0
   IsFrom at byte = (p : FixedPart) × IsFixedPart image p × (has_address at p ≡ true) × (slice_get p.bytes.items (at - p.from) ≡ Some byte)
 
   found : (at byte : ℕ) → fixed at ≡ Some byte → IsFrom at byte
@@ -112,15 +114,15 @@ module _ (image : Image) (parts : List FixedPart) (fixed : ℕ → Option ℕ) (
   are_fixed_of at byte is =
       let f = found at byte is in
       let p : FixedPart = f.0 in
-      let h = and_parts (nat_le p.from at) (nat_lt at (p.from + length p.bytes.items)) f.2.1 in
+      let h = and_parts (nat_le p.from at) (nat_lt at (p.from + length p.bytes.items)) f.2 in
       let low : p.from ≤ at = leb-true p.from at h.0 in
       let high : at < p.from + length p.bytes.items = ltb-true at (p.from + length p.bytes.items) h.1 in
       let place : p.from + (at - p.from) ≡ at = omega (arith, low) in
-      sym (ap (loaded_byte image) place) ∙ (f.1.bytes (at - p.from) (omega (arith, low, high)) ∙ get_or_from_slice_get p.bytes.items (at - p.from) byte 0 f.2.2)
+      sym (ap (loaded_byte image) place) ∙ (f.1.bytes (at - p.from) (omega (arith, low, high)) ∙ get_or_from_slice_get p.bytes.items (at - p.from) byte 0 f.3)
 
   pub are_unwritten_of : AreUnwritten (layout_of image) fixed
   unfolding may_write layout_of
   are_unwritten_of at byte is =
       let f = found at byte is in
-      or_from (in_stack at) _ (f.1.below at f.2.1)
-      (ap (λ (b : Bool). b && not (in_text (layout_of image) at)) (no_part at image.segments (λ k s lt writes. f.1.unwritten k s lt writes at f.2.1)))
+      or_from (in_stack at) _ (f.1.below at f.2)
+      (ap (λ (b : Bool). b && not (in_text (layout_of image) at)) (no_part at image.segments (λ k s lt writes. f.1.unwritten k s lt writes at f.2)))
