@@ -8,10 +8,10 @@ mod GivenInputs
 mod InOne
 mod LeftLines
 mod OneStatus
+mod OwnFiles
 mod Promises
 mod SmallStatus
 mod SwitchLines
 mod Told
 mod ToldInOne
-mod Versions
 mod Wants

@@ -20,7 +20,7 @@ use Rattle.pace_tool.specs.Answer.{DraftsJumps, Makes}
 use Rattle.pace_tool.specs.Fits.{Fits, MakesFit}
 use Rattle.pace_tool.proofs.FitKept.{fit_small}
 use Rattle.pace_tool.proofs.InOne.{in_one_small}
-use Rattle.pace_tool.proofs.Versions.{versions_small}
+use Rattle.pace_tool.proofs.OwnFiles.{versions_small}
 use Rattle.pace_tool.proofs.SmallStatus.{file_told, text_told}
 use Rattle.level_reasons.specs.declared.shown.Shown.{Shown}
 use Rattle.level_reasons.specs.Program.{AreReasons}

@@ -18,7 +18,7 @@ use Rattle.pace_tool.specs.Texts.{drafted_text, fitted_text}
 use Rattle.pace_tool.proofs.Drafted.{drafted_safely}
 use Rattle.pace_tool.proofs.FitKept.{fit_kept}
 use Rattle.pace_tool.proofs.InOne.{in_one_kept}
-use Rattle.pace_tool.proofs.Versions.{versions_kept}
+use Rattle.pace_tool.proofs.OwnFiles.{versions_kept}
 
 kept : (command : Command) (loaded : List (List ℕ)) (files : Files) (answer : Answer) → EachWithin (wants_of command) loaded → Makes command loaded answer → answer.status ≢ 1 →
     Promise command loaded (with_stores answer.stores files)
