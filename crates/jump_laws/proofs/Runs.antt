@@ -1,5 +1,5 @@
 -- What is known of words of tables in registers is so along a run whose returns go back to their calls.
-use Rattle.std.proofs.Common.{◌≡◌, ℕ, zero, suc, ◌+◌, ◌*◌, ◌<◌, ◌^◌, false, ⊎_elim, List, [], ◌∷◌, ◌++◌, refl, sym, ap, ◌∙◌, subst, arith, Option, Some, None}
+use Rattle.std.proofs.Common.{◌≡◌, ℕ, zero, suc, ◌+◌, ◌*◌, ◌<◌, ◌^◌, false, List, [], ◌∷◌, ◌++◌, refl, sym, ap, ◌∙◌, subst, arith, Option, Some, None}
 use Rattle.std.specs.Prelude.{All}
 use Rattle.std.proofs.lemmas.List.Sums.{fold-append}
 use Rattle.scale_base.specs.Layout.{may_write}
@@ -19,14 +19,14 @@ use Rattle.code_text.proofs.Laws.{kind_facts}
 use Rattle.graph_runs.specs.ReturnAddresses.{returns_after}
 use Rattle.graph_runs.specs.RunTransitions.{StandsBy, returns_more, returns_so}
 use Rattle.graph_runs.specs.Laws.{IsStartOver}
-use Rattle.graph_runs.proofs.Laws.{IsTrap, IsDone, image_starts, step_done}
+use Rattle.graph_runs.proofs.Laws.{image_starts}
 use Rattle.bound_laws.specs.Turning.{unasked}
 use Rattle.bound_laws.specs.Values.{AreBytes, Steps, Values}
 use Rattle.bound_laws.proofs.Laws.{At, Onward, Way, all_returns, along, back_to, fetched, into_call, loaded_small, onward, over_edge}
 use Rattle.stack_laws.specs.Areas.{IsLaidOut}
 use Rattle.stack_laws.specs.Laws.{StackValuesHold}
 use Rattle.stack_laws.specs.Stacks.{Stacks, view_of, IsStackInvariant, AreTold}
-use Rattle.stack_laws.proofs.Laws.{image_laid, image_told}
+use Rattle.stack_laws.proofs.Laws.{bytes_kept, image_laid, image_told}
 use Rattle.jump_laws.specs.declared.reads.TableRead.{TableRead}
 use Rattle.jump_laws.specs.Reads.{AreReads, IsRead}
 use Rattle.jump_laws.specs.Laws.{AreUnwritten, ImageWordsHold, TableWordsHold}
@@ -68,12 +68,6 @@ returns_before : (xs : List Stepped) (x : Stepped) (rs : List ℕ) → returns_s
 returns_before xs x rs h None e = let q : returns_so (xs ++ x ∷ []) ≡ None = fold-append returns_more (Some []) xs (x ∷ []) ∙ ap (λ o. returns_more o x) e in let bad : ⊥ = cc in absurd bad
 returns_before xs x rs h (Some ss) e = let q : returns_so (xs ++ x ∷ []) ≡ returns_after ss x = fold-append returns_more (Some []) xs (x ∷ []) ∙ ap (λ o. returns_more o x) e in (ss, e, sym q ∙ h)
 
--- a step writes no byte that may not be written
-pub bytes_kept : (env : Setting) (s : State) (x : Stepped) → (step env s).end ≡ Went x → (a : ℕ) → may_write env.layout a ≡ false → (step env s).state.bytes a ≡ s.bytes a
-bytes_kept env s x e a none = ⊎_elim
-    (λ (trap : IsTrap (step env s).end). absurd (subst IsTrap e trap))
-    (λ (done : (i : Instr) × IsDone env s i (step env s).end (step env s).state). done.1.bytes a none) (step_done env s)
-
 word_same : (f g : ℕ → ℕ) (q : ℕ) → ((j : ℕ) → j < 4 → f (q + j) ≡ g (q + j)) → word_at f q ≡ word_at g q
 word_same f g q same =
     let z : q + 0 ≡ q = omega arith in
@@ -90,7 +84,7 @@ word_same f g q same =
 
 module _ (told_along : StackValuesHold) (t : Text) (env : Setting) (s : State) (code : Code) (v : Values) (w : Stacks) (known : ℕ → Option TableRead) (start : IsStartOver t env s) (reached : IsReachedCode t code)
     (inv : IsStackInvariant t (text_graph t code) v w) (reads : AreReads t (text_graph t code) v known) (unwritten : AreUnwritten env.layout known)
-    (laid : IsLaidOut env.layout w.areas) (starts : AreTold v w s.pc (view_of w s.regs s.regs s.bytes)) (bytes : AreBytes s.bytes) (input : All (λ x. x < 256) env.input) where
+    (laid : IsLaidOut env.layout w.areas w.fixed) (starts : AreTold v w s.pc (view_of w s.regs s.regs s.bytes)) (bytes : AreBytes s.bytes) (input : All (λ x. x < 256) env.input) where
   none : Loops
   none = record { loops = 0; header = λ k. 0; bound = λ k. 0; least_trips = λ k. 0; inside = λ k a. false }
 

@@ -36,7 +36,7 @@ abbrev pub TableWordsHold : Type 0
 TableWordsHold = (t : Text) (env : Setting) (s : State) (code : Code) (v : Values) (w : Stacks) (known : ℕ → Option TableRead) →
     IsStartOver t env s → IsReachedCode t code → IsStackInvariant t (text_graph t code) v w →
     AreReads t (text_graph t code) v known → AreUnwritten env.layout known →
-    IsLaidOut env.layout w.areas → AreTold v w s.pc (view_of w s.regs s.regs s.bytes) → AreBytes s.bytes → All (λ x. x < 256) env.input →
+    IsLaidOut env.layout w.areas w.fixed → AreTold v w s.pc (view_of w s.regs s.regs s.bytes) → AreBytes s.bytes → All (λ x. x < 256) env.input →
     (n : ℕ) (rs : List ℕ) → returns_so (run env s n).steps ≡ Some rs → (run env s n).standing ≡ GoesOn →
     IsRead s.bytes (known (run env s n).state.pc) (run env s n).state.regs
 

@@ -32,7 +32,7 @@ same_leaving l trips Call pc next k = refl
 same_leaving l trips Return pc next k = refl
 
 module _ (t : Text) (env : Setting) (s : State) (code : Code) (v : Values) (w : Stacks) (l : Loops) (start : IsStartOver t env s) (reached : IsReachedCode t code) (inv : IsStackInvariant t (text_graph t code) v w)
-    (laid : IsLaidOut env.layout w.areas) (starts : AreTold v w s.pc (view_of w s.regs s.regs s.bytes)) (bytes : AreBytes s.bytes) (input : All (λ x. x < 256) env.input) where
+    (laid : IsLaidOut env.layout w.areas w.fixed) (starts : AreTold v w s.pc (view_of w s.regs s.regs s.bytes)) (bytes : AreBytes s.bytes) (input : All (λ x. x < 256) env.input) where
   pub kept_by_lower : (trips : ℕ → ℕ) → ((k : ℕ) → k < l.loops → IsLowerShown t (text_graph t code) v w l k ⊎ (l.least_trips k ≤ trips k)) → (n : ℕ) (d : Carried) → kept_at env s (with_trips l trips) n ≡ Some d → kept_at env s l n ≡ Some d
   kept_by_lower trips has n d kept = kept_by_steps l (with_trips l trips) (λ c x. refl) env s
       (λ n c d x at.

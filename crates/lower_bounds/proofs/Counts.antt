@@ -49,7 +49,7 @@ less_added : (before adds after : ℕ) → after ≡ (before + adds) % 2 ^ 32 �
 less_added before adds after is = let m = mod-le (before + adds) (2 ^ 32) in omega arith
 
 module _ (t : Text) (env : Setting) (ok : IsTextOf t env) (code : Code) (is : IsCodeOf (kind_at t) t.entry code) (fine : HasNoBadWord (kind_at t) t.entry)
-    (v : Values) (w : Stacks) (inv : IsStackInvariant t (text_graph t code) v w) (laid : IsLaidOut env.layout w.areas) (input : All (λ x. x < 256) env.input)
+    (v : Values) (w : Stacks) (inv : IsStackInvariant t (text_graph t code) v w) (laid : IsLaidOut env.layout w.areas w.fixed) (input : All (λ x. x < 256) env.input)
     (s : State) (over : IsOverText t s) (at_entry : s.pc ≡ t.entry) (l : Loops) (k trips : ℕ) (c : LowerCertificate)
     (cert : IsLowerCertificate t (text_graph t code) v w (l.header k) (l.inside k) trips c)
     (starts : AreTold v w s.pc (view_of w s.regs s.regs s.bytes)) (bytes : AreBytes s.bytes) where

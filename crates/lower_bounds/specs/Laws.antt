@@ -24,7 +24,7 @@ use Rattle.lower_bounds.specs.LowerBounds.{LowerCertificate, IsLowerCertificate,
 abbrev pub LowerCertificatesBoundTurns : Type 0
 LowerCertificatesBoundTurns = (t : Text) (env : Setting) (s : State) (code : Code) (v : Values) (w : Stacks) (l : Loops) (k trips : ℕ)
     (c : LowerCertificate) → IsStartOver t env s → IsReachedCode t code →
-    IsStackInvariant t (text_graph t code) v w → IsLaidOut env.layout w.areas → AreTold v w s.pc (view_of w s.regs s.regs s.bytes) →
+    IsStackInvariant t (text_graph t code) v w → IsLaidOut env.layout w.areas w.fixed → AreTold v w s.pc (view_of w s.regs s.regs s.bytes) →
     AreBytes s.bytes → All (λ x. x < 256) env.input →
     IsLowerCertificate t (text_graph t code) v w (l.header k) (l.inside k) trips c →
     (n : ℕ) (d : Carried) (x : Stepped) → (run env s n).standing ≡ GoesOn → (step env (run env s n).state).end ≡ Went x →

@@ -105,7 +105,7 @@ cut_in areas i c n cut h area = ⊎_elim
 
 -- the address of an access is in the interval
 module _ (env : Setting) (keyless : env.layout.keyed ≡ None) (v : Values) (w : Stacks) (offsets : (k : ℕ) → w.offset k < 2 ^ 32) (s : State) (zero_is : reg s.regs 0 ≡ 0) (size : length s.regs ≡ 32) (begun : List ℕ)
-    (told : AreTold v w s.pc (view_of w begun s.regs s.bytes)) (i : Instr) (here : instr_of (word_at s.bytes s.pc) ≡ Some i) (laid : IsLaidOut env.layout w.areas) (x : Stepped) (went : (step env s).end ≡ Went x) where
+    (told : AreTold v w s.pc (view_of w begun s.regs s.bytes)) (i : Instr) (here : instr_of (word_at s.bytes s.pc) ≡ Some i) (laid : IsLaidOut env.layout w.areas w.fixed) (x : Stepped) (went : (step env s).end ≡ Went x) where
   pub accesses : (r more : ℕ) (c : Arc) → IsAccessedIn v w.areas i s.pc r more c → IsIn c (plus (reg s.regs r) more)
   accesses r more c accessed = cut_in w.areas (sum_with (held (v.at s.pc) r) more) c (plus (reg s.regs r) more) accessed.cut
       (sum_with_in (held (v.at s.pc) r) more (reg s.regs r) (held_at env keyless v w offsets s zero_is size begun told i here r))

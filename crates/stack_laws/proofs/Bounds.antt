@@ -41,7 +41,7 @@ same_leaving l bounds Call pc next k = refl
 same_leaving l bounds Return pc next k = refl
 
 module _ (t : Text) (env : Setting) (s : State) (code : Code) (v : Values) (w : Stacks) (l : Loops) (start : IsStartOver t env s) (reached : IsReachedCode t code) (inv : IsStackInvariant t (text_graph t code) v w)
-    (laid : IsLaidOut env.layout w.areas) (starts : AreTold v w s.pc (view_of w s.regs s.regs s.bytes)) (bytes : AreBytes s.bytes) (input : All (λ x. x < 256) env.input) where
+    (laid : IsLaidOut env.layout w.areas w.fixed) (starts : AreTold v w s.pc (view_of w s.regs s.regs s.bytes)) (bytes : AreBytes s.bytes) (input : All (λ x. x < 256) env.input) where
   bounded : (k : ℕ) → IsShown t (text_graph t code) v w l k → (n : ℕ) (d : Carried) → kept_at env s (unasked l) n ≡ Some d → d.counts k ≤ l.bound k
   bounded k has n d kept = few_turns (d.counts k) has.certificate.least has.certificate.width (l.bound k) has.positive
       (stacks_bound_turns t env s code v w l k has.certificate start reached inv laid starts bytes input has.is has.within n d kept) has.enough
@@ -66,9 +66,9 @@ no_key : (image : Image) → image.keyed_segment ≡ None → (layout_of image).
 unfolding layout_of
 no_key image e = ap (option_map (λ k. k.range)) e
 
--- no segment of the image is keyed, and its bytes are in the areas
-pub image_laid : (image : Image) (code : Code) (v : Values) (w : Stacks) → IsStackAnalysed image code v w → IsLaidOut (layout_of image) w.areas
-image_laid image code v w ana = record { keyless = no_key image ana.plain; within = ana.areas }
+-- no segment of the image is keyed, its bytes are in the areas, and no store changes the fixed ones
+pub image_laid : (image : Image) (code : Code) (v : Values) (w : Stacks) → IsStackAnalysed image code v w → IsLaidOut (layout_of image) w.areas w.fixed
+image_laid image code v w ana = record { keyless = no_key image ana.plain; within = ana.areas; unwritten = ana.unwritten }
 
 some_same : (x y : Carried) → Some x ≡ Some y → x ≡ y
 some_same x y e = let r : x ≡ y = cc in r
@@ -95,6 +95,7 @@ module _ (image : Image) (levels : ℕ) (code : Code) (v : Values) (w : Stacks) 
     word_spans = λ k. subst (λ n. IsSpanned n fresh (fresh.words k)) (sym (ana.beginning.word_spans k)) tt;
     begins = ana.begins;
     cells = ana.cells;
+    fixed = ana.fixed;
     told = λ j. subst (λ o. IsTelling o s.regs) (sym (ana.beginning.told j)) tt;
     dwindling = λ j. subst (λ o. IsDwindling o s.regs) (sym (ana.beginning.dwindling j)) tt;
   }

@@ -8,7 +8,7 @@ use Rattle.scale_base.specs.declared.instruction.RegOp.{RegOp}
 use Rattle.scale_base.specs.declared.instruction.Instr.{Instr}
 use Rattle.scale_base.specs.declared.instruction.LoadOp.{LoadOp}
 use Rattle.scale_base.specs.declared.instruction.Instr.TheVariants.{Load, Imm, Reg}
-use Rattle.scale_base.specs.Arith.{plus, moved_by, unsigned, loaded, imm_result, reg_result}
+use Rattle.scale_base.specs.Arith.{plus, moved_by, unsigned, load_width, loaded, imm_result, reg_result}
 use Rattle.scale_base.specs.State.{reg, word_at}
 use Rattle.cost_theory.specs.Graph.{Graph}
 use Rattle.code_text.specs.Text.{Text, instr_at}
@@ -17,10 +17,11 @@ use Rattle.bound_laws.specs.Turning.{Leads, Calls}
 use Rattle.bound_laws.specs.Values.{Arc, word, IsIn, IsHeld, Covers, sum_with, opposite_of, held, said, passed, line_of, IsImpossible, keeps_of, keeps_at, IsRegister, Values, Steps, IsLineCovered, AreBytes}
 use Rattle.bound_laws.proofs.Laws.{only_one, in_covers, in_word, sum_with_in, held_of, line_in}
 use Rattle.stack_laws.specs.Cells.{IsCellHeld}
+use Rattle.stack_laws.specs.Fixed.{AreFixedIn}
 use Rattle.stack_laws.specs.Areas.{IsAccessedIn, IsCoveredByAccess, IsSolvedByAccess}
 use Rattle.stack_laws.specs.Telling.{IsTelling, IsToldTo}
 use Rattle.stack_laws.specs.Digits.{IsDwindling, IsLimitedBy}
-use Rattle.stack_laws.specs.Stacks.{IsCellLoaded, IsExactly, known_sum, known_sums, name_span, span_of, IsSpanned, IsSpannedOver, IsWordSpanned, IsSpanBack, IsWordSpanBack, Name, Stacks, View, view_of, word_address, IsNamed, name_of, more_of, name_arc, word_loaded, IsStoredFrom, IsLoadedTo, IsFar, IsMissed, IsDescending, IsSteady, IsNamedOver, IsWordCovered, IsWordNamed, ArePassed, AreEntered, IsRestored, IsSafe, IsNameSafe, IsRegisterBack, IsSumBack, IsNameBack, IsWordBack, IsWordNameBack, AreBack, IsReturned, IsStackInvariant, AreTold}
+use Rattle.stack_laws.specs.Stacks.{IsCellLoaded, IsFixedLoaded, IsExactly, known_sum, known_sums, name_span, span_of, IsSpanned, IsSpannedOver, IsWordSpanned, IsSpanBack, IsWordSpanBack, Name, Stacks, View, view_of, word_address, IsNamed, name_of, more_of, name_arc, word_loaded, IsStoredFrom, IsLoadedTo, IsFar, IsMissed, IsDescending, IsSteady, IsNamedOver, IsWordCovered, IsWordNamed, ArePassed, AreEntered, IsRestored, IsSafe, IsNameSafe, IsRegisterBack, IsSumBack, IsNameBack, IsWordBack, IsWordNameBack, AreBack, IsReturned, IsStackInvariant, AreTold}
 use Rattle.stack_laws.specs.Stacks.Name.{of_begin, of_word}
 use Rattle.stack_laws.specs.Stacks.IsNamedOver.{unnamed as none_over, kept as kept_over, summed as summed_over, added as added_over, added_to as added_to_over, loaded as loaded_over, loaded_as as loaded_as_over, stored as stored_over}
 use Rattle.stack_laws.specs.Stacks.IsWordCovered.{any as any_word, kept as kept_word, stored as stored_word, tied as tied_word, accessed as accessed_word_over}
@@ -41,6 +42,7 @@ use Rattle.stack_laws.specs.Making.{IsLineMade, IsSubtracted}
 use Rattle.stack_laws.proofs.Stepping.{load_far, store_keeps}
 use Rattle.stack_laws.proofs.Cells.{cell_loaded}
 use Rattle.stack_laws.proofs.Areas.{accessed_register, accessed_word, solved_register, span_by_interval}
+use Rattle.stack_laws.proofs.Fixed.{fixed_loaded}
 use Rattle.stack_laws.proofs.Telling.{told_behind, told_to}
 use Rattle.stack_laws.proofs.Digits.{dwindling_behind, limited_by}
 
@@ -154,8 +156,9 @@ module _ (t : Text) (g : Graph) (v : Values) (w : Stacks) (inv : IsStackInvarian
       (name_held : (r : ℕ) → IsNamed (name_of w a r) (view_of w begun before bytes) (reg before r))
       (span_held : (r : ℕ) → IsSpanned (span_of w a r) (view_of w begun before bytes) (reg before r))
       (results : (op : RegOp) (r rs1 rs2 : ℕ) → IsRegister r → i ≡ Reg op r rs1 rs2 → reg after r ≡ reg_result op (reg before rs1) (reg before rs2))
-      (left : IsLeft a begun bytes later) (cells : (k : ℕ) → IsCellHeld (w.cell k) later)
+      (left : IsLeft a begun bytes later) (cells : (k : ℕ) → IsCellHeld (w.cell k) later) (fixed : AreFixedIn w.fixed later)
       (reads : (op : LoadOp) (r rs1 : ℕ) (offset : ℤ) → IsRegister r → i ≡ Load op r rs1 offset → reg after r ≡ loaded op bytes (moved_by (reg before rs1) offset))
+      (aligned : (op : LoadOp) (r rs1 : ℕ) (offset : ℤ) → i ≡ Load op r rs1 offset → moved_by (reg before rs1) offset % load_width op ≡ 0)
       (accesses : (r more : ℕ) (c : Arc) → IsAccessedIn v w.areas i a r more c → IsIn c (plus (reg before r) more)) where
     abbrev now : View
     now = view_of w begun before bytes
@@ -279,6 +282,7 @@ module _ (t : Text) (g : Graph) (v : Values) (w : Stacks) (inv : IsStackInvarian
       word_spans = λ k. word_spans_then k (word_names_then k (p.word_names k)) (p.word_spans k);
       begins = begins;
       cells = cells;
+      fixed = fixed;
       told = λ j. told_behind v (w.told a) a b i before after kept holds numbers results zero_before size_before zero_after size_after told.registers.each told.told (w.told b j) (p.told j);
       dwindling = λ j. dwindling_behind v (w.dwindling a) a b i before after kept holds numbers results zero_before size_before zero_after size_after told.registers.each told.dwindling (w.dwindling b j) (p.dwindling j);
     }
@@ -294,19 +298,21 @@ module _ (t : Text) (g : Graph) (v : Values) (w : Stacks) (inv : IsStackInvarian
 
         each : (r : ℕ) → IsRegister r → IsHeld (v.at b r) (reg after r)
         each r is = ⊎_elim (register_in v inv.registers a b i before after kept holds adds so zero_before size_before zero_after size_after told.registers r is)
-            (λ (x : Covers (v.at b r) (name_arc v w b (w.name b r)) ⊎ IsSubtracted v i a b r ⊎ IsCellLoaded v w i a b r ⊎ IsToldTo v (w.told a) i a b r ⊎ IsCoveredByAccess v w.areas i a b r ⊎ IsLimitedBy v (w.dwindling a) i a b r ⊎ IsSolvedByAccess v w.areas i a b r). ⊎_elim
+            (λ (x : Covers (v.at b r) (name_arc v w b (w.name b r)) ⊎ IsSubtracted v i a b r ⊎ IsCellLoaded v w i a b r ⊎ IsToldTo v (w.told a) i a b r ⊎ IsCoveredByAccess v w.areas i a b r ⊎ IsLimitedBy v (w.dwindling a) i a b r ⊎ IsSolvedByAccess v w.areas i a b r ⊎ IsFixedLoaded v w i a b r). ⊎_elim
             (λ (c : Covers (v.at b r) (name_arc v w b (w.name b r))). in_covers (name_arc v w b (w.name b r)) (v.at b r) (reg after r) (name_arc_in v w b (w.name b r) then (reg after r) begins words small_then (names r is)) c)
-            (λ (y : IsSubtracted v i a b r ⊎ IsCellLoaded v w i a b r ⊎ IsToldTo v (w.told a) i a b r ⊎ IsCoveredByAccess v w.areas i a b r ⊎ IsLimitedBy v (w.dwindling a) i a b r ⊎ IsSolvedByAccess v w.areas i a b r). ⊎_elim
+            (λ (y : IsSubtracted v i a b r ⊎ IsCellLoaded v w i a b r ⊎ IsToldTo v (w.told a) i a b r ⊎ IsCoveredByAccess v w.areas i a b r ⊎ IsLimitedBy v (w.dwindling a) i a b r ⊎ IsSolvedByAccess v w.areas i a b r ⊎ IsFixedLoaded v w i a b r). ⊎_elim
             (λ (c : IsSubtracted v i a b r). subtracted v inv.registers a b i before after kept sums results zero_before size_before told.registers r is c)
-            (λ (z : IsCellLoaded v w i a b r ⊎ IsToldTo v (w.told a) i a b r ⊎ IsCoveredByAccess v w.areas i a b r ⊎ IsLimitedBy v (w.dwindling a) i a b r ⊎ IsSolvedByAccess v w.areas i a b r). ⊎_elim
+            (λ (z : IsCellLoaded v w i a b r ⊎ IsToldTo v (w.told a) i a b r ⊎ IsCoveredByAccess v w.areas i a b r ⊎ IsLimitedBy v (w.dwindling a) i a b r ⊎ IsSolvedByAccess v w.areas i a b r ⊎ IsFixedLoaded v w i a b r). ⊎_elim
             (λ (c : IsCellLoaded v w i a b r). cell_loaded v w i a b r before after bytes held_before told.cells (λ op rs1 offset. reads op r rs1 offset is) c)
-            (λ (u : IsToldTo v (w.told a) i a b r ⊎ IsCoveredByAccess v w.areas i a b r ⊎ IsLimitedBy v (w.dwindling a) i a b r ⊎ IsSolvedByAccess v w.areas i a b r). ⊎_elim
+            (λ (u : IsToldTo v (w.told a) i a b r ⊎ IsCoveredByAccess v w.areas i a b r ⊎ IsLimitedBy v (w.dwindling a) i a b r ⊎ IsSolvedByAccess v w.areas i a b r ⊎ IsFixedLoaded v w i a b r). ⊎_elim
             (λ (c : IsToldTo v (w.told a) i a b r). told_to v (w.told a) a b i before after kept holds numbers results zero_before size_before zero_after size_after told.registers.each told.told r is c)
-            (λ (q : IsCoveredByAccess v w.areas i a b r ⊎ IsLimitedBy v (w.dwindling a) i a b r ⊎ IsSolvedByAccess v w.areas i a b r). ⊎_elim
+            (λ (q : IsCoveredByAccess v w.areas i a b r ⊎ IsLimitedBy v (w.dwindling a) i a b r ⊎ IsSolvedByAccess v w.areas i a b r ⊎ IsFixedLoaded v w i a b r). ⊎_elim
             (λ (c : IsCoveredByAccess v w.areas i a b r). accessed_register v w.areas i a b r before after (kept r) (held_before r) (accesses r) c)
-            (λ (o : IsLimitedBy v (w.dwindling a) i a b r ⊎ IsSolvedByAccess v w.areas i a b r). ⊎_elim
+            (λ (o : IsLimitedBy v (w.dwindling a) i a b r ⊎ IsSolvedByAccess v w.areas i a b r ⊎ IsFixedLoaded v w i a b r). ⊎_elim
             (λ (c : IsLimitedBy v (w.dwindling a) i a b r). limited_by v (w.dwindling a) a b i before after kept holds numbers results zero_before size_before zero_after size_after told.registers.each told.dwindling r is c)
-            (λ (c : IsSolvedByAccess v w.areas i a b r). solved_register v w.areas i a b r before after (kept r) (holds r is) held_before told.registers.lines accesses c) o) q) u) z) y) x) (p.registers r is)
+            (λ (f : IsSolvedByAccess v w.areas i a b r ⊎ IsFixedLoaded v w i a b r). ⊎_elim
+            (λ (c : IsSolvedByAccess v w.areas i a b r). solved_register v w.areas i a b r before after (kept r) (holds r is) held_before told.registers.lines accesses c)
+            (λ (c : IsFixedLoaded v w i a b r). fixed_loaded v w i a b r before after bytes held_before told.fixed (λ op rs1 offset. reads op r rs1 offset is) (λ op rs1 offset. aligned op r rs1 offset) c) f) o) q) u) z) y) x) (p.registers r is)
 
     -- over an edge
     pub step_frames : (calls : List ℕ) (xs : List View) → Leads g a b → Steps g a b → Frames a begun bytes calls xs → AreTold v w b then × Frames b begun later calls xs
@@ -331,6 +337,7 @@ module _ (t : Text) (g : Graph) (v : Values) (w : Stacks) (inv : IsStackInvarian
         word_spans = λ k. subst (λ n. IsSpanned n fresh (fresh.words k)) (sym (e.beginning.word_spans k)) tt;
         begins = in_covers (v.at a 2) (w.begins (v.function b)) (reg after 2) (subst (IsHeld (v.at a 2)) (sym (kept 2 e.stack)) (told.registers.each 2 two_is)) e.begins;
         cells = cells;
+        fixed = fixed;
         told = λ j. subst (λ o. IsTelling o after) (sym (e.beginning.told j)) tt;
         dwindling = λ j. subst (λ o. IsDwindling o after) (sym (e.beginning.dwindling j)) tt;
       },
@@ -367,7 +374,7 @@ module _ (t : Text) (g : Graph) (v : Values) (w : Stacks) (inv : IsStackInvarian
   -- back from a call at u, by a return at a
   module _ (a b u e : ℕ) (begun before after : List ℕ) (bytes later : ℕ → ℕ) (kept : (r : ℕ) → keeps_at t r a ≡ true → reg after r ≡ reg before r) (zero_after : reg after 0 ≡ 0) (size_after : length after ≡ 32)
       (bytes_after : AreBytes later) (lt : e < g.edges) (from : g.source e ≡ a) (returns : g.returns e ≡ true) (leads : Leads g u b) (calls : List ℕ) (x : View) (xs : List View)
-      (told : AreTold v w a (view_of w begun before bytes)) (left : IsLeft a begun bytes later) (cells : (k : ℕ) → IsCellHeld (w.cell k) later) (fs : Frames a begun bytes (u ∷ calls) (x ∷ xs)) where
+      (told : AreTold v w a (view_of w begun before bytes)) (left : IsLeft a begun bytes later) (cells : (k : ℕ) → IsCellHeld (w.cell k) later) (fixed : AreFixedIn w.fixed later) (fs : Frames a begun bytes (u ∷ calls) (x ∷ xs)) where
     at_return : (r : ℕ) → IsRegister r → IsReturned t v w a r
     at_return r is = subst (λ n. IsReturned t v w n r) from (inv.returns e r lt returns (ap v.live from ∙ told.registers.live) is)
 
@@ -468,6 +475,7 @@ module _ (t : Text) (g : Graph) (v : Values) (w : Stacks) (inv : IsStackInvarian
         word_spans = λ k. word_span_back k (back.word_spans k);
         begins = begins;
         cells = cells;
+        fixed = fixed;
         told = λ j. subst (λ o. IsTelling o after) (sym (back.told j)) tt;
         dwindling = λ j. subst (λ o. IsDwindling o after) (sym (back.dwindling j)) tt;
       },

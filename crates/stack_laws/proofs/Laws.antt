@@ -6,4 +6,5 @@ pub use Rattle.stack_laws.proofs.Runs.{Holds, Returned, over_holds, call_holds, 
 pub use Rattle.stack_laws.proofs.Stepping.{gets, puts, misses}
 pub use Rattle.stack_laws.proofs.Cells.{one_byte, two_bytes, four_bytes}
 pub use Rattle.stack_laws.proofs.Areas.{usable, disjoint}
+pub use Rattle.stack_laws.proofs.Fixed.{bytes_kept}
 pub use Rattle.stack_laws.proofs.Written.{numbers, results}

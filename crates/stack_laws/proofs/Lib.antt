@@ -6,6 +6,7 @@ pub mod Making
 pub mod Stepping
 pub mod Cells
 pub mod Areas
+pub mod Fixed
 pub mod Telling
 pub mod Digits
 pub mod Frames

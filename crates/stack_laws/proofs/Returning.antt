@@ -40,7 +40,7 @@ back_behind : (value z : ℕ) → value % 2 ^ 32 ≡ ((z + 4) % 2 ^ 32 + 0) % 2 
 back_behind value z h aligned = omega arith
 
 module _ (t : Text) (env : Setting) (ok : IsTextOf t env) (code : Code) (is : IsCodeOf (kind_at t) t.entry code) (fine : HasNoBadWord (kind_at t) t.entry)
-    (v : Values) (w : Stacks) (inv : IsStackInvariant t (text_graph t code) v w) (comes : ComesBack t (text_graph t code) v w) (laid : IsLaidOut env.layout w.areas) (input : All (λ x. x < 256) env.input) where
+    (v : Values) (w : Stacks) (inv : IsStackInvariant t (text_graph t code) v w) (comes : ComesBack t (text_graph t code) v w) (laid : IsLaidOut env.layout w.areas w.fixed) (input : All (λ x. x < 256) env.input) where
   abbrev g : Graph
   g = text_graph t code
 

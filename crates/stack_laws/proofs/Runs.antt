@@ -23,6 +23,7 @@ use Rattle.bound_laws.specs.Turning.{unasked, Leads, Calls}
 use Rattle.bound_laws.specs.Values.{IsHeld, Values, IsRegister, AreBytes, Said, said, IsImpossible, keeps_of, keeps_at, passed, Steps}
 use Rattle.bound_laws.proofs.Laws.{steps_leave, steps_add, IsSo as SoOf, passed_in, so_behind, possible, step_bytes, At, Way, Onward, fetched, over_edge, into_call, back_to, KeptStep, along, all_returns, measure_adds, nothing_more}
 use Rattle.stack_laws.specs.Cells.{IsCellHeld}
+use Rattle.stack_laws.specs.Fixed.{AreFixedIn}
 use Rattle.stack_laws.specs.Areas.{IsLaidOut}
 use Rattle.stack_laws.specs.Stacks.{Stacks, View, view_of, word_address, IsNamed, name_of, IsStoredFrom, IsMissed, IsSparing, IsCellKept, IsRestored, IsSafe, IsStackInvariant, AreTold}
 use Rattle.stack_laws.specs.Stacks.Name.{of_word}
@@ -35,6 +36,7 @@ use Rattle.stack_laws.proofs.Stepping.{name_held, span_held, far_keeps, misses, 
 use Rattle.stack_laws.proofs.Written.{numbers, results}
 use Rattle.stack_laws.proofs.Cells.{cell_kept, reads}
 use Rattle.stack_laws.proofs.Areas.{accesses}
+use Rattle.stack_laws.proofs.Fixed.{fixed_kept, reads_aligned}
 use Rattle.stack_laws.proofs.Moving.{call_links}
 use Rattle.stack_laws.proofs.Frames.{Frame, Frames, IsLeft, AreAlike, step_frames, call_frames, return_frames, frame, alike, safe_is}
 
@@ -48,7 +50,7 @@ word_moved shift factor before after more e is adds =
     ap (λ n. (shift + factor * n) % 2 ^ 32) is ∙ (measure_adds (2 ^ 32) shift factor before more ∙ ap (λ n. ((shift + factor * before) % 2 ^ 32 + n) % 2 ^ 32) (sym adds))
 
 module _ (t : Text) (env : Setting) (ok : IsTextOf t env) (code : Code) (is : IsCodeOf (kind_at t) t.entry code) (fine : HasNoBadWord (kind_at t) t.entry)
-    (v : Values) (w : Stacks) (inv : IsStackInvariant t (text_graph t code) v w) (laid : IsLaidOut env.layout w.areas) (input : All (λ x. x < 256) env.input) where
+    (v : Values) (w : Stacks) (inv : IsStackInvariant t (text_graph t code) v w) (laid : IsLaidOut env.layout w.areas w.fixed) (input : All (λ x. x < 256) env.input) where
   -- at a state, within these calls, before which the functions that wait saw these views, in a function that began with these registers
   pub record Holds (u : State) (calls : List ℕ) (begun : List ℕ) (xs : List View) : Type 0 where
     pub told : AreTold v w u.pc (view_of w begun u.regs u.bytes)
@@ -112,6 +114,9 @@ module _ (t : Text) (env : Setting) (ok : IsTextOf t env) (code : Code) (is : Is
     cells e lt from k = cell_kept env laid.keyless v w inv.offsets u at.over.zero at.over.size begun now.told i fetch x went k
         (subst (λ a. IsCellKept v a i (w.cell k)) from (inv.cells k e i lt (ap v.live from ∙ now.told.registers.live) (ap (instr_at t) from ∙ facts.1)))
 
+    fixed : AreFixedIn w.fixed next.bytes
+    fixed = fixed_kept env u x went w.fixed laid.unwritten now.told.fixed
+
     -- what the step adds to a counter
     pub counts_on : (c : Counter) (e : ℕ) → HasRegisters c → ((j : Instr) → instr_at t u.pc ≡ Some j → IsAdded v w c u.pc j e) → counted c (view_of w begun next.regs next.bytes) ≡ (counted c (view_of w begun u.regs u.bytes) + e) % 2 ^ 32
     counts_on (in_registers m) e small does = steps_add env u x i m e fetch went (let z = at.over.size in let y = small.0 in omega arith) (let z = at.over.size in let y = small.1 in omega arith) (does i facts.1)
@@ -132,8 +137,8 @@ module _ (t : Text) (env : Setting) (ok : IsTextOf t env) (code : Code) (is : Is
             (gets env laid.keyless v w inv.offsets u at.over.zero at.over.size begun now.told i fetch x went) (numbers env u at.over.size i fetch x went)
             (far_keeps env laid.keyless v w inv.offsets u at.over.zero at.over.size begun now.told i fetch) (name_held env laid.keyless v w inv.offsets u at.over.zero at.over.size begun now.told i fetch)
             (span_held env laid.keyless v w inv.offsets u at.over.zero at.over.size begun now.told i fetch) (results env u at.over.size i fetch x went)
-            (left leads.0 leads.1 leads.2) (cells leads.0 leads.1 leads.2) (reads env laid.keyless v w inv.offsets u at.over.zero at.over.size begun now.told i fetch x went)
-            (accesses env laid.keyless v w inv.offsets u at.over.zero at.over.size begun now.told i fetch laid x went) at.calls xs leads steps now.frames
+            (left leads.0 leads.1 leads.2) (cells leads.0 leads.1 leads.2) fixed (reads env laid.keyless v w inv.offsets u at.over.zero at.over.size begun now.told i fetch x went)
+            (reads_aligned env u i fetch x went) (accesses env laid.keyless v w inv.offsets u at.over.zero at.over.size begun now.told i fetch laid x went) at.calls xs leads steps now.frames
 
     pub call_holds : x.moved ≡ Call → Calls g u.pc next.pc → Holds next (u.pc ∷ at.calls) next.regs (view_of w begun u.regs u.bytes ∷ xs)
     call_holds moved call = record { told = both.0; frames = both.1; memory = bytes }
@@ -144,8 +149,8 @@ module _ (t : Text) (env : Setting) (ok : IsTextOf t env) (code : Code) (is : Is
             (gets env laid.keyless v w inv.offsets u at.over.zero at.over.size begun now.told i fetch x went) (numbers env u at.over.size i fetch x went)
             (far_keeps env laid.keyless v w inv.offsets u at.over.zero at.over.size begun now.told i fetch) (name_held env laid.keyless v w inv.offsets u at.over.zero at.over.size begun now.told i fetch)
             (span_held env laid.keyless v w inv.offsets u at.over.zero at.over.size begun now.told i fetch) (results env u at.over.size i fetch x went)
-            (left call.0 call.2 call.3) (cells call.0 call.2 call.3) (reads env laid.keyless v w inv.offsets u at.over.zero at.over.size begun now.told i fetch x went)
-            (accesses env laid.keyless v w inv.offsets u at.over.zero at.over.size begun now.told i fetch laid x went) at.calls xs (call_links env u i fetch x went at.over.size moved) call now.frames
+            (left call.0 call.2 call.3) (cells call.0 call.2 call.3) fixed (reads env laid.keyless v w inv.offsets u at.over.zero at.over.size begun now.told i fetch x went)
+            (reads_aligned env u i fetch x went) (accesses env laid.keyless v w inv.offsets u at.over.zero at.over.size begun now.told i fetch laid x went) at.calls xs (call_links env u i fetch x went at.over.size moved) call now.frames
 
     -- at a return at least one call is open
     pub back_holds : (z e : ℕ) (us : List ℕ) → at.calls ≡ z ∷ us → e < g.edges → g.source e ≡ u.pc → g.returns e ≡ true → Leads g z next.pc → (y : View) × (rest : List View) × (xs ≡ y ∷ rest) × Holds next us y.begun rest × Returned z y next
@@ -162,8 +167,8 @@ module _ (t : Text) (env : Setting) (ok : IsTextOf t env) (code : Code) (is : Is
             to = f.to;
             call = f.call;
             told = f.told;
-            alike = λ r reg_is res. alike t g v w inv u.pc next.pc z e begun u.regs next.regs u.bytes next.bytes leaves over.zero over.size bytes lt from returns leads us y rest now.told (left e lt from) (cells e lt from) frames_are r reg_is res;
-            safe = safe_is t g v w inv u.pc next.pc z e begun u.regs next.regs u.bytes next.bytes leaves over.zero over.size bytes lt from returns leads us y rest now.told (left e lt from) (cells e lt from) frames_are;
+            alike = λ r reg_is res. alike t g v w inv u.pc next.pc z e begun u.regs next.regs u.bytes next.bytes leaves over.zero over.size bytes lt from returns leads us y rest now.told (left e lt from) (cells e lt from) fixed frames_are r reg_is res;
+            safe = safe_is t g v w inv u.pc next.pc z e begun u.regs next.regs u.bytes next.bytes leaves over.zero over.size bytes lt from returns leads us y rest now.told (left e lt from) (cells e lt from) fixed frames_are;
           },
         )
           where
@@ -171,10 +176,10 @@ module _ (t : Text) (env : Setting) (ok : IsTextOf t env) (code : Code) (is : Is
             frames_are = subst (λ ys. Frames t g v w inv u.pc begun u.bytes (z ∷ us) ys) same (subst (λ c. Frames t g v w inv u.pc begun u.bytes c xs) before now.frames)
 
             f : Frame t g v w inv u.pc begun next.bytes z y
-            f = frame t g v w inv u.pc next.pc z e begun u.regs next.regs u.bytes next.bytes leaves over.zero over.size bytes lt from returns leads us y rest now.told (left e lt from) (cells e lt from) frames_are
+            f = frame t g v w inv u.pc next.pc z e begun u.regs next.regs u.bytes next.bytes leaves over.zero over.size bytes lt from returns leads us y rest now.told (left e lt from) (cells e lt from) fixed frames_are
 
             both : AreTold v w next.pc (view_of w y.begun next.regs next.bytes) × Frames t g v w inv next.pc y.begun next.bytes us rest
-            both = return_frames t g v w inv u.pc next.pc z e begun u.regs next.regs u.bytes next.bytes leaves over.zero over.size bytes lt from returns leads us y rest now.told (left e lt from) (cells e lt from) frames_are
+            both = return_frames t g v w inv u.pc next.pc z e begun u.regs next.regs u.bytes next.bytes leaves over.zero over.size bytes lt from returns leads us y rest now.told (left e lt from) (cells e lt from) fixed frames_are
 
   module _ (s : State) (over : IsOverText t s) (at_entry : s.pc ≡ t.entry) (l : Loops) (starts : AreTold v w s.pc (view_of w s.regs s.regs s.bytes)) (bytes : AreBytes s.bytes) where
     abbrev pub I : State → List ℕ → Carried → Type 0

@@ -11,15 +11,17 @@ use Rattle.scale_base.specs.Layout.{Layout, may_read, may_write}
 use Rattle.bound_laws.specs.Registers.{Measure, keeps}
 use Rattle.bound_laws.specs.Values.{Arc, IsIn, ahead, scaled, sum_with, difference_of, opposite_of, solved, held, passed, Covers, meet_of, Values}
 use Rattle.stack_laws.specs.Making.{IsSide}
+use Rattle.stack_laws.specs.Fixed.{AreUnwritten}
 
 -- each byte that may be read or written is in one of the areas, which have numbers
 abbrev pub AreAreas : Layout → (ℕ → Option Arc) → Type 0
 AreAreas l areas = (at : ℕ) → may_read l at || may_write l at ≡ true → (k : ℕ) × (x : Arc) × (areas k ≡ Some x) × IsIn x at
 
--- what a run's layout says of its addresses: no segment is keyed, and these are areas
-pub record IsLaidOut (l : Layout) (areas : ℕ → Option Arc) : Type 0 where
+-- what a run's layout says of its addresses: no segment is keyed, these are areas, and no store changes these bytes
+pub record IsLaidOut (l : Layout) (areas : ℕ → Option Arc) (fixed : ℕ → Option ℕ) : Type 0 where
   pub keyless : l.keyed ≡ None
   pub within : AreAreas l areas
+  pub unwritten : AreUnwritten l fixed
 
 -- the instruction loads from, or stores to, the address that is so much more than what the register holds, modulo 2^32
 pub data IsAccess (i : Instr) (r more : ℕ) : Type 0 where

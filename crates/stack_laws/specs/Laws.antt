@@ -20,6 +20,7 @@ use Rattle.bound_laws.specs.Turning.{unasked, with_bounds, Calls}
 use Rattle.bound_laws.specs.Values.{IsRegister, Values, IsHeld, AreIn, AreBytes}
 use Rattle.bound_laws.specs.Laws.{starting_registers}
 use Rattle.stack_laws.specs.Cells.{IsCellHeld}
+use Rattle.stack_laws.specs.Fixed.{AreFixedIn, AreUnwritten}
 use Rattle.stack_laws.specs.Areas.{AreAreas, IsLaidOut}
 use Rattle.stack_laws.specs.Stacks.{Stacks, view_of, IsRestored, IsBeginning, IsStackInvariant, AreTold}
 use Rattle.stack_laws.specs.Returning.{ComesBack}
@@ -30,7 +31,7 @@ use Rattle.stack_laws.specs.Counting.{StackCertificate, IsStackCertificate, IsWi
 abbrev pub StackValuesHold : Type 0
 StackValuesHold = (t : Text) (env : Setting) (s : State) (code : Code) (v : Values) (w : Stacks) → IsStartOver t env s →
     IsReachedCode t code → IsStackInvariant t (text_graph t code) v w →
-    IsLaidOut env.layout w.areas → AreTold v w s.pc (view_of w s.regs s.regs s.bytes) → AreBytes s.bytes → All (λ x. x < 256) env.input →
+    IsLaidOut env.layout w.areas w.fixed → AreTold v w s.pc (view_of w s.regs s.regs s.bytes) → AreBytes s.bytes → All (λ x. x < 256) env.input →
     (n : ℕ) (rs : List ℕ) → returns_so (run env s n).steps ≡ Some rs → (run env s n).standing ≡ GoesOn →
     (begun : List ℕ) × AreTold v w (run env s n).state.pc (view_of w begun (run env s n).state.regs (run env s n).state.bytes)
 
@@ -52,7 +53,7 @@ pub record ComesBackAt (env : Setting) (s : State) (m n : ℕ) (call : Stepped) 
 abbrev pub RestoredRegistersHold : Type 0
 RestoredRegistersHold = (t : Text) (env : Setting) (s : State) (code : Code) (v : Values) (w : Stacks) → IsStartOver t env s →
     IsReachedCode t code → IsStackInvariant t (text_graph t code) v w →
-    IsLaidOut env.layout w.areas → AreTold v w s.pc (view_of w s.regs s.regs s.bytes) → AreBytes s.bytes → All (λ x. x < 256) env.input →
+    IsLaidOut env.layout w.areas w.fixed → AreTold v w s.pc (view_of w s.regs s.regs s.bytes) → AreBytes s.bytes → All (λ x. x < 256) env.input →
     (m n : ℕ) (call : Stepped) → ComesBackAt env s m n call →
     (to : ℕ) × Calls (text_graph t code) (run env s m).state.pc to × ((r : ℕ) → IsRegister r →
     IsRestored t v w (run env s m).state.pc to r → reg (run env s m).state.regs r < 2 ^ 32 →
@@ -63,7 +64,7 @@ RestoredRegistersHold = (t : Text) (env : Setting) (s : State) (code : Code) (v 
 abbrev pub StackCertificatesBoundTurns : Type 0
 StackCertificatesBoundTurns = (t : Text) (env : Setting) (s : State) (code : Code) (v : Values) (w : Stacks) (l : Loops) (k : ℕ)
     (c : StackCertificate) → IsStartOver t env s → IsReachedCode t code → IsStackInvariant t (text_graph t code) v w →
-    IsLaidOut env.layout w.areas → AreTold v w s.pc (view_of w s.regs s.regs s.bytes) → AreBytes s.bytes → All (λ x. x < 256) env.input →
+    IsLaidOut env.layout w.areas w.fixed → AreTold v w s.pc (view_of w s.regs s.regs s.bytes) → AreBytes s.bytes → All (λ x. x < 256) env.input →
     IsStackCertificate t (text_graph t code) v w (l.header k) (l.inside k) c → IsWithin v w c.width c.counter (l.header k) →
     (n : ℕ) (d : Carried) → kept_at env s (unasked l) n ≡ Some d → d.counts k * c.least ≤ c.width
 
@@ -76,8 +77,10 @@ pub record IsStackAnalysed (image : Image) (code : Code) (v : Values) (w : Stack
   pub begins : IsHeld (w.begins (v.function image.entry)) STACK_POINTER
   pub plain : image.keyed_segment ≡ None
   pub areas : AreAreas (layout_of image) w.areas
+  pub unwritten : AreUnwritten (layout_of image) w.fixed
   -- the memory with which a run begins
   pub cells : (c : ℕ) → IsCellHeld (w.cell c) (loaded_byte image)
+  pub fixed : AreFixedIn w.fixed (loaded_byte image)
 
 -- A run of an image that is kept by some bounds is kept by these, where each loop's bound is shown by the code or is no less than the other.
 abbrev pub ShownBoundsAreKept : Type 0
@@ -100,7 +103,7 @@ ShownBoundsAreKeptByReturns = (file : List ℕ) (image : Image) (levels : ℕ) (
 abbrev pub RunsComeBack : Type 0
 RunsComeBack = (t : Text) (env : Setting) (s : State) (code : Code) (v : Values) (w : Stacks) → IsStartOver t env s →
     IsReachedCode t code → IsStackInvariant t (text_graph t code) v w → ComesBack t (text_graph t code) v w →
-    IsLaidOut env.layout w.areas → AreTold v w s.pc (view_of w s.regs s.regs s.bytes) → AreBytes s.bytes → All (λ x. x < 256) env.input →
+    IsLaidOut env.layout w.areas w.fixed → AreTold v w s.pc (view_of w s.regs s.regs s.bytes) → AreBytes s.bytes → All (λ x. x < 256) env.input →
     (n : ℕ) → (rs : List ℕ) × (returns_so (run env s n).steps ≡ Some rs) × (length rs ≤ most_returns)
 
 -- Where all bounds are shown, no loop has to turn and the code says so of returns, every run of the image is kept, on each input.

@@ -2,6 +2,7 @@ pub mod Making
 pub mod Cells
 pub mod Telling
 pub mod Digits
+pub mod Fixed
 pub mod Areas
 pub mod Stacks
 pub mod Counting

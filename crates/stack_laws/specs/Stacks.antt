@@ -18,6 +18,7 @@ use Rattle.bound_laws.specs.Turning.{Leads, Calls}
 use Rattle.bound_laws.specs.Values.{Arc, IsIn, ahead, strided, word, exactly, top_of, sum_of, sum_with, opposite_of, held, IsHeld, Covers, said, passed, line_of, IsImpossible, keeps_at, IsRegister, Values, Steps, IsCovered, IsLineCovered, AreIn}
 use Rattle.stack_laws.specs.Making.{IsLineMade, IsSubtracted}
 use Rattle.stack_laws.specs.Cells.{Cell, IsCellHeld, IsBeside, IsStoredInto, IsLoadedFrom}
+use Rattle.stack_laws.specs.Fixed.{AreFixedIn, GivesFixed}
 use Rattle.stack_laws.specs.Areas.{IsAccessedIn, IsCoveredByAccess, IsSolvedByAccess}
 use Rattle.stack_laws.specs.Telling.{Told, IsTelling, IsToldBehind, IsToldTo}
 use Rattle.stack_laws.specs.Digits.{Dwindling, IsDwindling, IsDwindlingBehind, IsLimitedBy}
@@ -60,6 +61,8 @@ pub record Stacks : Type 0 where
   pub dwindling : ℕ → ℕ → Option Dwindling
   -- by number, intervals of addresses that hold all that may be loaded from or stored to
   pub areas : ℕ → Option Arc
+  -- by address, the byte that is always there
+  pub fixed : ℕ → Option ℕ
 
 -- What the code of a function sees: the registers, the words of its stack by number, the registers when it began, and memory.
 pub record View : Type 0 where
@@ -260,14 +263,24 @@ pub record IsCellLoaded (v : Values) (w : Stacks) (i : Instr) (a b r : ℕ) : Ty
   pub loaded : IsLoadedFrom op (sum_with (held (v.at a) rs1) (unsigned offset)) cell
   pub covers : Covers (v.at b r) (Some cell.values)
 
+-- a register's interval at b: what a load of fixed bytes gives, from wherever in an interval its address is
+pub record IsFixedLoaded (v : Values) (w : Stacks) (i : Instr) (a b r : ℕ) : Type 0 where
+  pub op : LoadOp
+  pub rs1 : ℕ
+  pub offset : ℤ
+  pub loads : i ≡ Load op r rs1 offset
+  pub place : Arc
+  pub place_is : sum_with (held (v.at a) rs1) (unsigned offset) ≡ Some place
+  pub covers : GivesFixed w.fixed op place (v.at b r)
+
 -- a register's interval at b: as in an invariant of intervals, by its name, by a line of the difference that the instruction writes, by a
--- cell that it loads, by what another register tells, by where an access through it may be, by how often a number is divided that it counts, or
--- by a line of it and of a register through which an access goes
+-- cell that it loads, by what another register tells, by where an access through it may be, by how often a number is divided that it counts, by
+-- a line of it and of a register through which an access goes, or by fixed bytes that it loads
 abbrev pub IsCoveredOver : Values → Stacks → Instr → ℕ → ℕ → ℕ → Type 0
 IsCoveredOver v w i a b r =
     IsCovered v i a b r ⊎ Covers (v.at b r) (name_arc v w b (w.name b r)) ⊎ IsSubtracted v i a b r ⊎ IsCellLoaded v w i a b r
     ⊎ IsToldTo v (w.told a) i a b r ⊎ IsCoveredByAccess v w.areas i a b r ⊎ IsLimitedBy v (w.dwindling a) i a b r
-    ⊎ IsSolvedByAccess v w.areas i a b r
+    ⊎ IsSolvedByAccess v w.areas i a b r ⊎ IsFixedLoaded v w i a b r
 
 -- the register holds this number alone
 abbrev pub IsExactly : Values → ℕ → ℕ → Arc → Type 0
@@ -467,5 +480,6 @@ pub record AreTold (v : Values) (w : Stacks) (a : ℕ) (x : View) : Type 0 where
   pub word_spans : (k : ℕ) → IsSpanned (w.word_span a k) x (x.words k)
   pub begins : IsHeld (w.begins (v.function a)) (reg x.begun 2)
   pub cells : (c : ℕ) → IsCellHeld (w.cell c) x.bytes
+  pub fixed : AreFixedIn w.fixed x.bytes
   pub told : (j : ℕ) → IsTelling (w.told a j) x.regs
   pub dwindling : (j : ℕ) → IsDwindling (w.dwindling a j) x.regs

@@ -1,3 +1,4 @@
 pub mod Seen
 mod Public
 pub mod Laws
+mod Fixing

@@ -39,7 +39,7 @@ same_leaving l bounds Call pc next k = refl
 same_leaving l bounds Return pc next k = refl
 
 module _ (t : Text) (env : Setting) (s : State) (code : Code) (v : Values) (w : Stacks) (most : Option ℕ) (l : Loops) (start : IsStartOver t env s) (reached : IsReachedCode t code) (inv : IsStackInvariant t (text_graph t code) v w)
-    (laid : IsLaidOut env.layout w.areas) (starts : AreTold v w s.pc (view_of w s.regs s.regs s.bytes)) (bytes : AreBytes s.bytes) (input : All (λ x. x < 256) env.input) (within : IsInputWithin most env.input) where
+    (laid : IsLaidOut env.layout w.areas w.fixed) (starts : AreTold v w s.pc (view_of w s.regs s.regs s.bytes)) (bytes : AreBytes s.bytes) (input : All (λ x. x < 256) env.input) (within : IsInputWithin most env.input) where
   pub bounded : (k : ℕ) → IsShown t (text_graph t code) v w most l k → (n : ℕ) (d : Carried) → kept_at env s (unasked l) n ≡ Some d → d.counts k ≤ l.bound k
   bounded k has n d kept = ⊎_elim
       (λ (q : counting.IsShown t (text_graph t code) v w l k). few_turns (d.counts k) q.certificate.least q.certificate.width (l.bound k) q.positive

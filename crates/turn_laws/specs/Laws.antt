@@ -23,7 +23,7 @@ use Rattle.turn_laws.specs.Relating.{TurnCertificate, IsTurnCertificate, IsShown
 abbrev pub TurnCertificatesBoundTurns : Type 0
 TurnCertificatesBoundTurns = (t : Text) (env : Setting) (s : State) (code : Code) (v : Values) (w : Stacks) (most : Option ℕ)
     (l : Loops) (k : ℕ) (c : TurnCertificate) → IsStartOver t env s → IsReachedCode t code → IsStackInvariant t (text_graph t code) v w →
-    IsLaidOut env.layout w.areas → AreTold v w s.pc (view_of w s.regs s.regs s.bytes) → AreBytes s.bytes → All (λ x. x < 256) env.input →
+    IsLaidOut env.layout w.areas w.fixed → AreTold v w s.pc (view_of w s.regs s.regs s.bytes) → AreBytes s.bytes → All (λ x. x < 256) env.input →
     IsInputWithin most env.input → IsTurnCertificate t (text_graph t code) v w most (l.header k) (l.inside k) c →
     (n : ℕ) (d : Carried) → kept_at env s (unasked l) n ≡ Some d → d.counts k * c.least ≤ c.width
 

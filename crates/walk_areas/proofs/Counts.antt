@@ -36,7 +36,7 @@ use Rattle.walk_areas.proofs.Turns.Mode.{at_level}
 use Rattle.walk_areas.proofs.Turns.Level.{within, elsewhere}
 
 module _ (t : Text) (env : Setting) (ok : IsTextOf t env) (code : Code) (is : IsCodeOf (kind_at t) t.entry code) (fine : HasNoBadWord (kind_at t) t.entry)
-    (v : Values) (w : Stacks) (inv : IsStackInvariant t (text_graph t code) v w) (laid : IsLaidOut env.layout w.areas) (input : All (λ x. x < 256) env.input)
+    (v : Values) (w : Stacks) (inv : IsStackInvariant t (text_graph t code) v w) (laid : IsLaidOut env.layout w.areas w.fixed) (input : All (λ x. x < 256) env.input)
     (s : State) (over : IsOverText t s) (at_entry : s.pc ≡ t.entry) (l : Loops) (k : ℕ) (c : WalkCertificate)
     (cert : IsWalkCertificate t (text_graph t code) v w (l.header k) (l.inside k) c)
     (starts : AreTold v w s.pc (view_of w s.regs s.regs s.bytes)) (bytes : AreBytes s.bytes) where

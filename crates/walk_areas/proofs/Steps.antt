@@ -107,7 +107,7 @@ module _ (env : Setting) (keyless : env.layout.keyed ≡ None) (v : Values) (w :
       let known : IsHeld (held (v.at s.pc) q.register) (reg s.regs q.register) = held_of (v.at s.pc) s.regs zero_is size told.registers.each q.register in
       in_covers (sum_with (held (v.at s.pc) q.register) q.more) c.place (plus (reg s.regs q.register) q.more) (sum_with_in (held (v.at s.pc) q.register) q.more (reg s.regs q.register) known) q.placed
 
-  touched_by : IsLaidOut env.layout w.areas → IsAimed v c s.pc i → IsHere c (aimed c facts.first facts.second) (count * c.least)
+  touched_by : IsLaidOut env.layout w.areas w.fixed → IsAimed v c s.pc i → IsHere c (aimed c facts.first facts.second) (count * c.least)
   touched_by laid q =
       let n : ℕ = plus (reg s.regs q.register) q.more in
       let traced : Has (aim c) n = wider (aim c) (moved_by_number (operand v c s.pc q.register) q.more) n (sum_in (operand v c s.pc q.register) facts.first facts.second (reg s.regs q.register) q.more (finds q.register)) q.aims in
@@ -115,5 +115,5 @@ module _ (env : Setting) (keyless : env.layout.keyed ≡ None) (v : Values) (w :
       let e : n ≡ aimed c facts.first facts.second = points n (small_sum (reg s.regs q.register) q.more) traced in
       shown w.areas c ground count (aimed c facts.first facts.second) facts.good (subst (IsHeld c.place) e (is_placed q)) area.0 area.1 area.2 (subst (IsIn area.1) e area.3)
 
-  pub touches : IsLaidOut env.layout w.areas → IsTouched v c s.pc i → IsHere c (aimed c facts.first facts.second) (count * c.least)
+  pub touches : IsLaidOut env.layout w.areas w.fixed → IsTouched v c s.pc i → IsHere c (aimed c facts.first facts.second) (count * c.least)
   touches laid q = ⊎_elim (λ (on : c.touched s.pc ≡ true). facts.touched on) (λ (a : IsAimed v c s.pc i). touched_by laid a) q

@@ -18,6 +18,6 @@ use Rattle.walk_areas.specs.Walking.{WalkCertificate, IsWalkCertificate}
 abbrev pub WalkCertificatesBoundTurns : Type 0
 WalkCertificatesBoundTurns = (t : Text) (env : Setting) (s : State) (code : Code) (v : Values) (w : Stacks) (l : Loops) (k : ℕ)
     (c : WalkCertificate) → IsStartOver t env s → IsReachedCode t code → IsStackInvariant t (text_graph t code) v w →
-    IsLaidOut env.layout w.areas → AreTold v w s.pc (view_of w s.regs s.regs s.bytes) → AreBytes s.bytes → All (λ x. x < 256) env.input →
+    IsLaidOut env.layout w.areas w.fixed → AreTold v w s.pc (view_of w s.regs s.regs s.bytes) → AreBytes s.bytes → All (λ x. x < 256) env.input →
     IsWalkCertificate t (text_graph t code) v w (l.header k) (l.inside k) c →
     (n : ℕ) (d : Carried) → kept_at env s (unasked l) n ≡ Some d → d.counts k * c.least ≤ c.width
