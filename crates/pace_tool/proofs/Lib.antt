@@ -14,4 +14,5 @@ mod SmallStatus
 mod SwitchLines
 mod Told
 mod ToldInOne
+mod ToldVersions
 mod Wants

@@ -4,6 +4,7 @@
 ghost use Rattle.std.specs.Prelude.{◌<◌};
 
 use crate::apart::raised;
+use crate::areas::access_of;
 use crate::arcs::{WORDS, ahead, holds, kept, only, shorter};
 use crate::passing::Step;
 use crate::program::Program;
@@ -23,12 +24,14 @@ const LONGEST: u64 = 0xF000_0000;
 /// How many instructions behind a difference are looked at for one that asks whether it is 0.
 const SOON: usize = 12;
 
-/// What registers tell where a state flows to, and the register of whose interval there nothing follows, since it is loaded.
+/// What registers tell where a state flows to, and the registers of whose intervals there nothing follows: one is loaded, and the access behind which the
+/// state is says something of the other one, which what is told doesn't use.
 #[derive(Clone, Copy)]
 pub struct Sentences {
     items: [Option<Told>; 8],
     count: usize,
     loaded: u8,
+    cut: u8,
 }
 
 impl Sentences {
@@ -38,6 +41,7 @@ impl Sentences {
             items: [None; 8],
             count: 0,
             loaded: 0,
+            cut: 0,
         }
     }
 
@@ -45,6 +49,12 @@ impl Sentences {
     pub fn clear(&mut self) {
         self.count = 0;
         self.loaded = 0;
+        self.cut = 0;
+    }
+
+    // Whether nothing follows of a register's interval.
+    fn is_silent(&self, r: u8) -> bool {
+        r == self.loaded || r == self.cut
     }
 
     /// How many there are.
@@ -129,7 +139,7 @@ pub fn is_never(row: &Row, told: &Told) -> bool {
 impl State {
     // The interval of a register that the instruction leaves there.
     fn known(&self, r: u8) -> Option<Arc> {
-        if r == self.told.loaded {
+        if self.told.is_silent(r) {
             None
         } else {
             arc_of(&self.row, r)
@@ -138,7 +148,7 @@ impl State {
 
     /// Whether what is told is so for want of states of which it is told.
     pub fn is_never(&self, told: &Told) -> bool {
-        told.teller != self.told.loaded && is_never(&self.row, told)
+        !self.told.is_silent(told.teller) && is_never(&self.row, told)
     }
 
     /// The interval of the register of which something is told, by what is told of it, or whatever the teller is.
@@ -596,12 +606,23 @@ impl Telling<'_> {
         }
     }
 
-    /// What registers tell behind the step: first what the instruction has them tell.
-    pub fn sentences(&self) -> Sentences {
-        let mut to = Sentences::none();
+    // Notes of which registers nothing follows: what is loaded is known by the words alone, and what an access says of its register by its area.
+    fn note_silent(&self, to: &mut Sentences) {
         if let Instr::Load { rd, .. } = self.step.instr {
             to.loaded = rd;
         }
+        if let Some(access) = access_of(self.step.instr) {
+            let r = access.register;
+            if !holds(arc_of(self.passed, r), arc_of(&self.from.row, r)) {
+                to.cut = r;
+            }
+        }
+    }
+
+    /// What registers tell behind the step: first what the instruction has them tell.
+    pub fn sentences(&self) -> Sentences {
+        let mut to = Sentences::none();
+        self.note_silent(&mut to);
         self.add_compared(&mut to);
         if !self.from.told.is_empty() {
             self.add_turned(&mut to);
