@@ -12,6 +12,8 @@ mod chains;
 #[cfg(test)]
 mod drafts;
 #[cfg(test)]
+mod fixed_loads;
+#[cfg(test)]
 mod graphs;
 #[cfg(test)]
 mod least_numbers;
