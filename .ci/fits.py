@@ -136,8 +136,8 @@ def main():
         with tempfile.TemporaryDirectory(prefix="pace-fits-") as folder:
             wrong += check_taken(scale, folder)
             wrong += check_large(scale, pace, folder)
-            for image, words in VERSIONED:
-                wrong += check_versions(scale, pace, folder, image, words)
+            for image, deadline, words in VERSIONED:
+                wrong += check_versions(scale, pace, folder, image, deadline, words)
         wrong += check_programs(scale, pace)
     print("\n".join([*wrong, "%d builds of pace%s" % (len(programs), ", and not all as expected" if wrong else " as expected")]))
     return 1 if wrong else 0
