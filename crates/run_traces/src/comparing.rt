@@ -75,8 +75,12 @@ pub fn derived_runs<P: Progress>(
     program: &ProgramInputs<'_>,
     progress: &mut P,
 ) -> Result<Vec<DerivedRun>, Stop> {
-    let Sources { power, view, notes } =
-        Sources::read(alloc, program.image, program.machine, program.loops)?;
+    let Sources { power, view, notes } = Sources::read(
+        alloc,
+        program.image,
+        program.machine,
+        program.loops,
+    )?;
     let mut shared = SharedSteps::new(power, DERIVED_STEPS);
     let mut counter = LoopCounter::new(alloc, notes)?;
     let derived = derived_inputs(alloc, program.inputs, program.places)?;

@@ -38,11 +38,7 @@ fn inverted(alloc: Global, input: &[u8], at: usize) -> Result<Vec<u8>, NoMemory>
 }
 
 /// Adds the beginnings of an input, as long as there are few.
-fn add_beginnings(
-    alloc: Global,
-    input: &[u8],
-    derived: &mut Vec<Vec<u8>>,
-) -> Result<(), NoMemory> {
+fn add_beginnings(alloc: Global, input: &[u8], derived: &mut Vec<Vec<u8>>) -> Result<(), NoMemory> {
     for n in [1, 4, 8, 12] {
         if derived.len() < MOST_INPUTS {
             derived.push(beginning(alloc, input, sixteenths(input.len(), n))?)?;
@@ -52,11 +48,7 @@ fn add_beginnings(
 }
 
 /// Adds an input with one byte inverted or another, as long as there are few.
-fn add_inverted(
-    alloc: Global,
-    input: &[u8],
-    derived: &mut Vec<Vec<u8>>,
-) -> Result<(), NoMemory> {
+fn add_inverted(alloc: Global, input: &[u8], derived: &mut Vec<Vec<u8>>) -> Result<(), NoMemory> {
     for n in [0, 2, 8] {
         if derived.len() < MOST_INPUTS {
             derived.push(inverted(alloc, input, sixteenths(input.len(), n))?)?;
