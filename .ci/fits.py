@@ -58,26 +58,27 @@ def check_large(scale, pace, folder):
         yield "pace draw plan of a large program: status %d, %r" % (done.returncode, done.stderr)
 
 
-# Of which programs of the cases a loop is there twice, and the words by which it is: with a draft of its loops, and with a loop file that is written by hand.
+# Of which programs of the cases a loop is there twice, by which deadline, and the words by which it is: with a draft of its loops, and with a loop file that is
+# written by hand.
 VERSIONED = [
-    ("divide-each", ["all", "p.elf", "m", "out", "ten", "forty"]),
-    ("divide-and-step", ["fit", "p.elf", "m", "loops", "out", "ten", "forty", "--versions"]),
+    ("divide-each", 5400, ["all", "p.elf", "m", "out", "ten", "forty"]),
+    ("divide-and-step", 3600, ["fit", "p.elf", "m", "loops", "out", "ten", "forty", "--versions"]),
 ]
 
 
-def versioned(pace, folder, image, words):
+def versioned(pace, folder, image, deadline, words):
     """What is printed for a program of the cases, whose files stand in the folder then."""
     read_in = cases.read_all(os.path.join(TOP, "crates", "pace_tool", "cases"), "pace")[2]
     shelf = next(reader.shelf for reader in read_in if os.path.basename(reader.path) == "versions.txt")
-    for name, phrase in (("p.elf", image), ("m", "m-1800"), ("loops", "hand-loops"), ("ten", "ten"), ("forty", "forty")):
+    for name, phrase in (("p.elf", image), ("m", f"m-{deadline}"), ("loops", "hand-loops"), ("ten", "ten"), ("forty", "forty")):
         with open(os.path.join(folder, name), "wb") as file:
             file.write(shelf.file(phrase))
     return run(pace, folder, *words)
 
 
-def check_versions(scale, pace, folder, image, words):
+def check_versions(scale, pace, folder, image, deadline, words):
     """What is wrong of the runs of an image in which a loop is there twice, on inputs of each length."""
-    done = versioned(pace, folder, image, words)
+    done = versioned(pace, folder, image, deadline, words)
     if done.returncode != 0 or not re.search(b"^version 0x", done.stdout, re.M):
         yield "pace %s: status %d, %r" % (" ".join(words), done.returncode, done.stdout)
         return
@@ -86,7 +87,7 @@ def check_versions(scale, pace, folder, image, words):
             file.write(bytes(length))
         runs = [(*fit.run(scale, "simulate", *(os.path.join(folder, name) for name in (stored, "m", "input", "report"))), read(folder, "report")) for stored in ("p.elf", "out")]
         # The cycles of a versioned image are its own run's, with those of the guard.
-        yield from ("versions of %s, %d bytes: %s" % (image, length, what) for what in fit.breaches(done.stdout.decode(), 1800, *runs) if what != "too many cycles")
+        yield from ("versions of %s, %d bytes: %s" % (image, length, what) for what in fit.breaches(done.stdout.decode(), deadline, *runs) if what != "too many cycles")
 
 
 class Tools:
@@ -135,8 +136,8 @@ def main():
         with tempfile.TemporaryDirectory(prefix="pace-fits-") as folder:
             wrong += check_taken(scale, folder)
             wrong += check_large(scale, pace, folder)
-            for image, words in VERSIONED:
-                wrong += check_versions(scale, pace, folder, image, words)
+            for image, deadline, words in VERSIONED:
+                wrong += check_versions(scale, pace, folder, image, deadline, words)
         wrong += check_programs(scale, pace)
     print("\n".join([*wrong, "%d builds of pace%s" % (len(programs), ", and not all as expected" if wrong else " as expected")]))
     return 1 if wrong else 0

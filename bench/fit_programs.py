@@ -1,12 +1,13 @@
 #!/usr/bin/env python3
 """Prints what the images that `pace fit` stores of C programs save over those of `scale hold`, on inputs that they were fitted to and on others.
 
-    fit_programs.py [--jobs N] [--pace PROGRAM] [--scale PROGRAM] [--versions] [FOLDER ..]
+    fit_programs.py [--jobs N] [--pace PROGRAM] [--scale PROGRAM] [--versions] [--seen] [FOLDER ..]
 
 Each FOLDER has one program in C, FOLDER/NAME.c, and may have inputs in FOLDER/inputs, eight at least; else eight of up to 64 bytes are drawn. Without any
 the six examples with inputs and the programs of bench/programs are taken. gcc and clang build each at -O0, -O1, -O2 and -Os, with branches for switches. `pace loops`
 drafts the loop files; a loop that stays open gets the most turns that any of the inputs takes, as `scale survey` tells it. A build whose loops can't be drafted or in whose runs
-nothing counts is told and left out.
+nothing counts is told and left out. With `--seen` each loop gets the most turns of any input, also where the draft has a bound of it: what one might write who knows the
+program, where a proved bound may be far above it.
 
 Deadlines are 1.5, 2.5 and 3.0 times the worst cycles; levels take 4, 2 and 1 time units and 1, 3 and 8 energy units a cycle, a switch takes 10 and 20. Images are fitted to
 the first and the third input. For each deadline there is the geometric mean of the energies over those of `hold`, and the greatest, on the inputs that were fitted to together and
@@ -66,10 +67,10 @@ class Build:
             return status, text, file.read()
 
     def fill(self):
-        """Gives each loop that is open in the draft the most turns of any input."""
+        """Gives each loop that is open in the draft the most turns of any input, and with `--seen` all others, too."""
         with open(self.path("loops")) as file:
             draft = file.read()
-        self.is_closed = "# no bound" not in draft
+        self.is_closed = "# no bound" not in draft and not self.tools.seen
         if self.is_closed:
             return
         with open(self.path("loops"), "w") as file:
@@ -77,12 +78,16 @@ class Build:
         text = run(self.tools.scale, "survey", self.path("p.elf"), self.path("p.elf"), self.path("m"), self.path("loops"), *self.inputs)[1]
         most = iter(re.findall(r"^loop \d+ most (\d+)$", text, re.M))
 
-        def filled(line):
-            turns = next(most)
-            return f"bound = {turns}" if line[0].startswith("#") else line[0]
+        def filled(lines):
+            turns, least = int(next(most)), lines[1]
+            if lines[0].startswith("#"):
+                return f"bound = {turns}"
+            if not self.tools.seen:
+                return lines[0]
+            return f"bound = {turns}" + (f"\nat_least = {min(turns, int(least))}" if least and turns else "")
 
         with open(self.path("loops"), "w") as file:
-            file.write(re.sub(r"(?m)^(?:bound = \d+|# no bound.*)$", filled, draft))
+            file.write(re.sub(r"(?m)^(?:bound = \d+(?:\nat_least = (\d+))?|# no bound.*)$", filled, draft))
 
     def worst(self):
         """The worst cycles; None where the program isn't built or its loops can't be drafted."""
@@ -155,6 +160,7 @@ def main():
     words = argparse.ArgumentParser(description=__doc__, formatter_class=argparse.RawDescriptionHelpFormatter)
     words.add_argument("--jobs", type=int, default=os.cpu_count())
     words.add_argument("--versions", action="store_true", help="fit images in which a loop is there twice, too")
+    words.add_argument("--seen", action="store_true", help="take the most turns of any input as the bounds of all loops")
     words.add_argument("--each", action="store_true", help="tell of each build, too")
     words.add_argument("--pace", default=f"{TOP}/pace")
     words.add_argument("--scale", default=f"{TOP}/scale")

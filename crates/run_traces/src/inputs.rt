@@ -1,6 +1,7 @@
-//! The runs that are looked at: those of the original on some inputs, and random walks.
+//! The runs that are looked at: those of the original on some inputs and on ones that are derived from these, and random walks.
 
-use crate::runs::{RunMarks, RunWeight, Watched};
+use crate::comparing::DerivedRun;
+use crate::runs::{RunKind, RunMarks, RunWeight, Watched};
 use crate::sums::{Sums, weight_of};
 use crate::tracing::EdgeTrace;
 use crate::walking::{HABITS, WALKS, WalkPlan, walked};
@@ -14,7 +15,7 @@ use std::alloc::Global;
 /// How many shares a run on an input has, where each walk has as many as there are such runs: three times as many as there are walks.
 const SHARES: u64 = 33;
 
-/// A program with the graph that walks go over, and the inputs on which it runs: those at some places.
+/// A program with the graph that walks go over, and the inputs on which it runs: those at some places, and derived ones.
 #[derive(Drop)]
 pub struct Runs<'a> {
     pub view: &'a ImageView<'a>,
@@ -22,6 +23,7 @@ pub struct Runs<'a> {
     pub plan: &'a WalkPlan<'a>,
     pub inputs: &'a [Vec<u8>],
     pub places: &'a [usize],
+    pub derived: &'a [DerivedRun],
 }
 
 impl Runs<'_> {
@@ -65,6 +67,32 @@ impl Runs<'_> {
         }
     }
 
+    /// The weight of a run on a derived input of so many cycles: all of them together have as many shares as all walks, where each walk has so many.
+    fn derived_weight(&self, shares: u64, cycles: u64) -> u64 {
+        let all = shares.saturating_mul(WALKS as u64);
+        let runs = self.derived.len() as u64;
+        weight_of(all, cycles).checked_div(runs).unwrap_or(0)
+    }
+
+    /// Adds what the runs on derived inputs do at the edges, where each walk has so many shares. How far they are is told.
+    fn add_derived<P: Progress>(
+        &self,
+        alloc: Global,
+        shares: u64,
+        sums: &mut Sums,
+        trace: &mut EdgeTrace,
+        progress: &mut P,
+    ) -> Result<(), Stop> {
+        progress.begin(Part::Input, self.derived.len());
+        for run in self.derived {
+            progress.next(Part::Input);
+            if let Some(cycles) = self.traced(alloc, &run.input, trace, progress)? {
+                sums.add(trace, cycles, self.derived_weight(shares, cycles));
+            }
+        }
+        Ok(())
+    }
+
     /// Adds what the walks do at the edges, where each has so many shares.
     fn add_walks(
         &self,
@@ -97,26 +125,52 @@ impl Runs<'_> {
             }
         }
         let shares = sums.runs().max(1);
+        self.add_derived(alloc, shares, &mut sums, trace, progress)?;
         self.add_walks(alloc, shares, &mut sums, trace)?;
         Ok(sums)
     }
 
-    /// Adds what the walks do at the candidates: each has as many shares as there are runs before, and those with habits have no weight.
+    /// Adds what the runs on derived inputs do at the candidates, where each walk has so many shares. How far they are is told.
+    fn add_derived_runs<P: Progress>(
+        &self,
+        alloc: Global,
+        watched: &Watched<'_>,
+        shares: u64,
+        runs: &mut Vec<RunMarks>,
+        trace: &mut EdgeTrace,
+        progress: &mut P,
+    ) -> Result<(), Stop> {
+        progress.begin(Part::Input, self.derived.len());
+        for derived in self.derived {
+            progress.next(Part::Input);
+            if let Some(cycles) = self.traced(alloc, &derived.input, trace, progress)? {
+                let run = RunWeight {
+                    cycles,
+                    weight: self.derived_weight(shares, cycles),
+                    kind: RunKind::Derived,
+                };
+                runs.push(RunMarks::new(alloc, watched, trace, run)?)?;
+            }
+        }
+        Ok(())
+    }
+
+    /// Adds what the walks do at the candidates: each has so many shares, and those with habits have no weight.
     fn add_walk_runs(
         &self,
         alloc: Global,
         watched: &Watched<'_>,
+        shares: u64,
         runs: &mut Vec<RunMarks>,
         trace: &mut EdgeTrace,
     ) -> Result<(), NoMemory> {
-        let shares = (runs.len() as u64).max(1);
         for number in 0..WALKS + HABITS {
             if let Some(cycles) = walked(alloc, self.plan, number, trace)? {
                 let own = if number < WALKS { shares } else { 0 };
                 let run = RunWeight {
                     cycles,
                     weight: weight_of(own, cycles),
-                    is_input: false,
+                    kind: RunKind::Walk,
                 };
                 runs.push(RunMarks::new(alloc, watched, trace, run)?)?;
             }
@@ -139,12 +193,14 @@ impl Runs<'_> {
                 let run = RunWeight {
                     cycles,
                     weight: weight_of(SHARES, cycles),
-                    is_input: true,
+                    kind: RunKind::Input,
                 };
                 runs.push(RunMarks::new(alloc, watched, trace, run)?)?;
             }
         }
-        self.add_walk_runs(alloc, watched, &mut runs, trace)?;
+        let shares = (runs.len() as u64).max(1);
+        self.add_derived_runs(alloc, watched, shares, &mut runs, trace, progress)?;
+        self.add_walk_runs(alloc, watched, shares, &mut runs, trace)?;
         Ok(runs)
     }
 }

@@ -1,5 +1,6 @@
 //! What each run does at the candidates.
 
+use crate::derived::is_brief;
 use crate::numbers::Numbers;
 use crate::tracing::{EdgeTrace, Passed};
 use crate::turning::LoopPlan;
@@ -150,12 +151,32 @@ fn candidate_on(candidates: &[Candidate], e: Option<usize>) -> Option<usize> {
         .position(|c| matches!(c, Candidate::Edge(d) if *d == e))
 }
 
-/// A run: its cycles, its weight, and whether it is one on an input.
+/// What a run is: one on an input that is given, one on an input that is derived from these, or a walk.
+#[derive(Clone, Copy, PartialEq, Eq)]
+pub enum RunKind {
+    Input,
+    Derived,
+    Walk,
+}
+
+/// A run: its cycles, its weight, and what it is.
 #[derive(Clone, Copy)]
 pub struct RunWeight {
     pub cycles: u64,
     pub weight: u64,
-    pub is_input: bool,
+    pub kind: RunKind,
+}
+
+impl RunWeight {
+    /// Whether it is one on an input that is given.
+    pub fn is_input(&self) -> bool {
+        matches!(self.kind, RunKind::Input)
+    }
+
+    /// Whether it is let off: it is one on a derived input, and brief.
+    pub fn is_let_off(&self) -> bool {
+        matches!(self.kind, RunKind::Derived) && is_brief(self.cycles)
+    }
 }
 
 /// A run, and what it does at each candidate.

@@ -1,10 +1,10 @@
-//! What proposals save that count loops, by their runs: the search doesn't price them.
+//! What proposals save that count loops, and what they lose, by their runs: the search doesn't price them.
 
 use crate::building::Files;
 use crate::growing::WORTH_RISK;
 use paced_images::{Proposal, pace_useful};
 use run_progress::{Part, Progress};
-use run_traces::Runs;
+use run_traces::{ComparedImage, Runs};
 use scale_base::Stop;
 use speed_sim::{RunFiles, simulate_with_progress};
 use std::alloc::Global;
@@ -68,7 +68,30 @@ fn held(tries: &Tries<'_>) -> u128 {
     energy
 }
 
-/// Whether the runs with a proposal save enough.
+/// Whether the runs with an image save enough on the inputs.
+fn saves<P: Progress>(
+    alloc: Global,
+    tries: &Tries<'_>,
+    image: &[u8],
+    progress: &mut P,
+) -> Result<bool, Stop> {
+    let held = held(tries);
+    let saved = held.saturating_sub(spent(alloc, tries, image, progress)?);
+    Ok(saved.saturating_mul(1000) >= held.saturating_mul(WORTH_RISK))
+}
+
+/// Whether the run of an image on a derived input takes over 2 percent more than at the starting level.
+fn loses<P: Progress>(
+    alloc: Global,
+    tries: &Tries<'_>,
+    image: &[u8],
+    progress: &mut P,
+) -> Result<bool, Stop> {
+    let mut compared = ComparedImage::read(alloc, image, tries.files.machine, tries.rate)?;
+    compared.loses_derived(alloc, tries.runs.derived, progress)
+}
+
+/// Whether the runs with a proposal save enough on the inputs, and none on a derived input loses much.
 fn pays<P: Progress>(
     alloc: Global,
     tries: &Tries<'_>,
@@ -77,18 +100,16 @@ fn pays<P: Progress>(
 ) -> Result<bool, Stop> {
     let files = &tries.files;
     match pace_useful(alloc, files.image, files.machine, files.loops, proposal) {
-        Ok(Some(made)) => {
-            let held = held(tries);
-            let saved = held.saturating_sub(spent(alloc, tries, &made.0, progress)?);
-            Ok(saved.saturating_mul(1000) >= held.saturating_mul(WORTH_RISK))
-        }
+        Ok(Some(made)) => Ok(saves(alloc, tries, &made.0, progress)?
+            && !loses(alloc, tries, &made.0, progress)?),
         Ok(None) => Ok(false),
         Err(Stop::Refused(_)) => Ok(false),
         Err(Stop::Memory) => Err(Stop::Memory),
     }
 }
 
-/// Of some proposals those that count no loops as noted, and of the others those with which the runs save enough.
+/// Of some proposals those that count no loops as noted, and of the others those with which the runs save enough and none on a derived
+/// input loses much.
 pub fn paying<P: Progress>(
     alloc: Global,
     tries: &Tries<'_>,

@@ -4,7 +4,7 @@ use crate::building::{Act, Acts, Files, Places, are_dear};
 use crate::marks::{change_energy, energy_at};
 use crate::sets::{MarkSet, Priced};
 use power_model::Power;
-use run_traces::{CandidateRun, RunMarks, Span, StubCosts};
+use run_traces::{CandidateRun, RunKind, RunMarks, Span, StubCosts, is_much};
 use scale_base::NoMemory;
 use std::alloc::Global;
 
@@ -40,7 +40,7 @@ pub struct Search<'a> {
 pub fn shortest_of(runs: &[RunMarks]) -> u64 {
     let mut shortest: Option<u64> = None;
     for marks in runs {
-        if marks.run.is_input {
+        if marks.run.is_input() {
             let least = shortest.unwrap_or(u64::MAX);
             shortest = Some(marks.run.cycles.min(least));
         }
@@ -48,11 +48,13 @@ pub fn shortest_of(runs: &[RunMarks]) -> u64 {
     shortest.unwrap_or(0)
 }
 
-/// The cycles of the shortest of some runs, walks among them; none where there are none.
+/// The cycles of the shortest of some runs, walks among them, but for those that are let off; none where there are none.
 pub fn least_of(runs: &[RunMarks]) -> u64 {
     let mut least: Option<u64> = None;
     for marks in runs {
-        least = Some(marks.run.cycles.min(least.unwrap_or(u64::MAX)));
+        if !marks.run.is_let_off() {
+            least = Some(marks.run.cycles.min(least.unwrap_or(u64::MAX)));
+        }
     }
     least.unwrap_or(0)
 }
@@ -61,7 +63,7 @@ pub fn least_of(runs: &[RunMarks]) -> u64 {
 pub fn input_cycles(runs: &[RunMarks]) -> u128 {
     let mut cycles: u128 = 0;
     for marks in runs {
-        if marks.run.is_input {
+        if marks.run.is_input() {
             cycles = cycles.saturating_add(u128::from(marks.run.cycles));
         }
     }
@@ -141,7 +143,7 @@ impl Energies {
     fn add(&mut self, run: &RunMarks, energy: u128) {
         let weighed = energy.saturating_mul(u128::from(run.run.weight));
         self.all = self.all.saturating_add(weighed);
-        if run.run.is_input {
+        if run.run.is_input() {
             self.inputs = self.inputs.saturating_add(energy);
         }
     }
@@ -242,16 +244,20 @@ impl<'a> Search<'a> {
         let stubs = self.stub_cycles(set, run, 0, cycles.saturating_add(1));
         let few = u128::from(stubs).saturating_mul(1000) <= u128::from(cycles).saturating_mul(FEW);
         let spent = energy.saturating_add(self.held_energy(stubs));
-        run.run.is_input && !few && spent > self.held_energy(cycles)
+        run.run.is_input() && !few && spent > self.held_energy(cycles)
     }
 
-    /// Whether a set is out by a run: this takes more with it than without, by more than so many thousandths of its own energy, or of that of a run that
-    /// is a tenth as long as the shortest on an input, where that is more. What a stub takes that is passed once counts for nothing.
+    /// Whether a set is out by a run: this takes over 2 percent more with it than without. Of a walk, and of a run on an input that is given, these are of the
+    /// energy of a run that is a tenth as long as the shortest on an input, where that is more, and what a stub takes that is passed once counts for nothing.
     fn loses(&self, run: &RunMarks, energy: u128) -> bool {
         let cycles = run.run.cycles;
-        let lost = energy.saturating_sub(self.held_energy(cycles));
+        let held = self.held_energy(cycles);
+        let lost = energy.saturating_sub(held);
+        if matches!(run.run.kind, RunKind::Derived) {
+            return !run.run.is_let_off() && is_much(lost, held);
+        }
         let usual = self.held_energy(cycles.max(self.shortest / 10));
-        lost > self.held_energy(ONCE) && lost.saturating_mul(1000) > usual.saturating_mul(MOST_LOST)
+        lost > self.held_energy(ONCE) && is_much(lost, usual)
     }
 
     /// The energy of so many cycles at the starting level.
@@ -357,9 +363,6 @@ const FEW: u128 = 18;
 
 /// How many thousandths of the cycles of the shortest run the stubs of a set may add at most where no run loses much with it.
 const HARMLESS: u128 = 10;
-
-/// How many thousandths more a run may take with the stubs of a set than without.
-const MOST_LOST: u128 = 20;
 
 /// So many cycles at the starting level may be lost in any run: about what one stub takes that is passed once.
 const ONCE: u64 = 16;

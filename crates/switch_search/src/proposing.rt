@@ -20,7 +20,10 @@ use paced_images::Proposal;
 use power_model::Power;
 use program_sources::Sources;
 use run_progress::Progress;
-use run_traces::{EdgeTrace, Numbers, RunMarks, Runs, StubCosts, WalkPlan, numbers_of};
+use run_traces::{
+    DerivedRun, EdgeTrace, Numbers, ProgramInputs, RunMarks, Runs, StubCosts, WalkPlan, derived_runs,
+    numbers_of,
+};
 use scale_base::{NoMemory, Stop};
 use std::alloc::Global;
 
@@ -232,6 +235,24 @@ fn propose_for<P: Progress>(
     paying(alloc, &tries, proposals, progress)
 }
 
+/// The runs on inputs that are derived from those at some places, as far as they count.
+fn derived_of<P: Progress>(
+    alloc: Global,
+    files: &Files<'_>,
+    inputs: &[Vec<u8>],
+    places: &[usize],
+    progress: &mut P,
+) -> Result<Vec<DerivedRun>, Stop> {
+    let program = ProgramInputs {
+        image: files.image,
+        machine: files.machine,
+        loops: files.loops,
+        inputs,
+        places,
+    };
+    derived_runs(alloc, &program, progress)
+}
+
 /// The proposals for files that nothing refuses.
 fn search_files<P: Progress>(
     alloc: Global,
@@ -249,6 +270,7 @@ fn search_files<P: Progress>(
     let plan = WalkPlan::new(alloc, &graph, &tree, &numbers)?;
     let steps = steps_of(power, cycles);
     let places = each_of(alloc, cycles, (steps / TRACED).saturating_add(1))?;
+    let derived = derived_of(alloc, &files, inputs, &places, progress)?;
     let program = Program {
         files,
         power,
@@ -265,6 +287,7 @@ fn search_files<P: Progress>(
         plan: &plan,
         inputs,
         places: &places,
+        derived: &derived,
     };
     propose_for(alloc, &program, &runs, steps, progress)
 }
@@ -278,10 +301,14 @@ fn search_files<P: Progress>(
 /// to any run.
 /// Of edges and tallied loops none is given with which one of the runs below takes over 2 percent more than at one level; of a run that is shorter than a tenth of
 /// the shortest one on an input, over 2 percent of what a run of that length takes.
+/// None at all is given with which the run on a derived input takes over 2 percent more than at one level. Derived are 24 inputs at most, from those on which
+/// the original is run: the empty input; of one that has at least 16 bytes its first sixteenth, quarter, half and three quarters, and itself with its first byte
+/// inverted, or with that behind an eighth or a half of it. One counts where the original exits on it and keeps the loop file, as long as these runs take
+/// few steps in all, and puts nothing out where this run takes fewer than 64 cycles.
 ///
 /// With each input comes how many cycles the run of the original on it takes, where the input counts.
-/// The choice is by the runs of the original on the inputs that count, on some of them where these are long, and by some random walks of its graph that
-/// keep the loop file: a third as much in all, and alone where no input counts. Walks with habits, which nearly always go the same way at a branch, may only put
+/// The choice is by the runs of the original on the inputs that count, on some of them where these are long, and by the runs on derived inputs and some random
+/// walks of its graph that keep the loop file: both a third as much in all, and the walks alone where no input counts. Walks with habits, which nearly always go the same way at a branch, may only put
 /// marks out. It is the same for the same files. Nothing is promised of it: what it
 /// proposes has to be made and run by others. How far the runs are is told. One error: memory ran out.
 pub fn propose<P: Progress>(

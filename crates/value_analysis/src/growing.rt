@@ -31,6 +31,9 @@ use std::alloc::Global;
 use std::collections::BinaryHeap;
 use wrapped_intervals::Arc;
 
+/// How many words of the stack are known at all nodes together, at most: about 90 MB. A program of 30,000 instructions has room for 36 at each.
+const MOST_WORDS: usize = 1_100_000;
+
 /// What is known of a function: the row at its returns, whether a state is there, the registers that it gives back, whether it stores nothing to the
 /// words of functions that wait, what x2 has when it begins, how often that has grown, and the number of the first of its words that calls may store to.
 #[derive(Clone, Copy)]
@@ -128,6 +131,8 @@ pub struct Growth<'a> {
     /// How many states have flowed, and from how many on there is haste.
     flowed: usize,
     haste: usize,
+    /// How many words more may be known, at all nodes together.
+    room: usize,
 }
 
 // By function, no thresholds yet.
@@ -173,6 +178,7 @@ impl<'a> Growth<'a> {
             waits: vec![in alloc; false; nodes]?,
             flowed: 0,
             haste: nodes.saturating_mul(60).saturating_add(100_000),
+            room: MOST_WORDS,
         })
     }
 
@@ -397,7 +403,8 @@ impl<'a> Growth<'a> {
         let begins = self.begins(f);
         if !self.live[k] {
             self.live[k] = true;
-            self.facts[k].put(state, &begins)?;
+            self.facts[k].put(state, &begins, self.room)?;
+            self.room = self.room.saturating_sub(self.facts[k].words.len());
             return Ok(Change {
                 grown: true,
                 dropped: false,

@@ -575,9 +575,9 @@ fn known_count(state: &State) -> usize {
     count
 }
 
-// Puts words in the place of others, with the spans that their names say.
-fn put_words(words: &mut Vec<Word>, state: &State) -> Result<(), NoMemory> {
-    let count = known_count(state);
+// Puts words in the place of others, so many at most, with the spans that their names say.
+fn put_words(words: &mut Vec<Word>, state: &State, most: usize) -> Result<(), NoMemory> {
+    let count = known_count(state).min(most);
     words.clear();
     words.reserve_exact(count)?;
     for k in 0..count {
@@ -606,10 +606,15 @@ fn put_spans(spans: &mut Row, other: &Row, names: &Names) {
 }
 
 impl Facts {
-    /// Puts the first state that comes to a node there, by what x2 has when its function begins.
-    pub fn put(&mut self, state: &State, begins: &Option<Arc>) -> Result<(), NoMemory> {
+    /// Puts the first state that comes to a node there, by what x2 has when its function begins, with so many words at most.
+    pub fn put(
+        &mut self,
+        state: &State,
+        begins: &Option<Arc>,
+        most: usize,
+    ) -> Result<(), NoMemory> {
         self.names = state.names;
-        put_words(&mut self.words, state)?;
+        put_words(&mut self.words, state, most)?;
         let named = named_row(&self.names, &self.words, begins);
         let known = Known {
             row: &state.row,

@@ -8,6 +8,7 @@ ghost use Rattle.version_fits.specs.Goals.{IsBest, IsChosenVersion, IsLoopFile, 
 use crate::fits::{Fit, VersionFit, fit_file, fit_version};
 use crate::goal::FitGoal;
 use crate::loop_files::drafted_file;
+use crate::trying::HeldRuns;
 use pace_fit::Fitted;
 use run_progress::Progress;
 use scale_base::{FILE_LIMIT, IMAGE_LIMIT, NoMemory};
@@ -63,15 +64,16 @@ struct Best {
     fit: Fit,
 }
 
-// An image, what it is fitted to, and the numbers of its own fit.
+// An image, what it is fitted to, the numbers of its own fit, and its runs at one level.
 #[derive(Clone, Copy)]
 struct PlainFit<'a> {
     goal: &'a FitGoal<'a>,
     image: &'a [u8],
     fitted: Fitted,
+    held: &'a HeldRuns<'a>,
 }
 
-// The fit that is chosen so far, or that of this version where it takes less.
+// The fit that is chosen so far, or that of this version where it takes less, and not much more than the program at one level on any input.
 fn try_version<P: Progress>(
     alloc: Global,
     plain: &PlainFit<'_>,
@@ -85,7 +87,10 @@ fn try_version<P: Progress>(
 {
     let made = fit_version(alloc, plain.goal, plain.image, &version, progress)?;
     if let Some(VersionFit { loops, fit }) = made {
-        if saves_enough(&fit, plain.fitted.hold_energy) && takes_less(&fit, &best.fit) {
+        if saves_enough(&fit, plain.fitted.hold_energy)
+            && takes_less(&fit, &best.fit)
+            && !plain.held.loses(alloc, &fit.stored, progress)?
+        {
             return Ok(Best {
                 version: Some(Tried { version, loops }),
                 fit,
@@ -162,10 +167,12 @@ fn choose_by<P: Progress>(
     }
     match fit_file(alloc, goal, plain, loops, progress)? {
         Some(first) => {
+            let held = HeldRuns::new(alloc, goal, plain, loops, &first, progress)?;
             let plain = PlainFit {
                 goal,
                 image: plain,
                 fitted: first.fitted,
+                held: &held,
             };
             chosen_of(alloc, &plain, first, versions, progress)
         }
@@ -190,11 +197,13 @@ fn choose_drafted<P: Progress>(
     }
 }
 
-/// A version by which a program takes less energy on the inputs that count, by more than a sixty-fourth, and 40 thousandths less than its image at one level:
-/// of those that are tried the last one of which this is so against all before it. None where no version takes so much less than the program itself, where a
-/// loop of it is open, or where something refuses it. Each is fitted with a loop file: the program with the one that is given, a version with one that is made
-/// by that; or else each with a draft of its loops. A version is left out where it has no such file, where a loop of its draft is open, or where other inputs
-/// count. Which versions are tried isn't promised: at most 8. How far the runs are is told.
+/// A version by which a program takes less energy on the inputs that count, by more than a sixty-fourth, and 40 thousandths less than its image at one level,
+/// and on no input takes over 2 percent more than that image: on none that counts, and on none of those that `switch_search` derives from these, on which
+/// the program exits and keeps its loop file; but for inputs on which the program runs fewer than 64 cycles, and as long as these runs take few steps in all.
+/// It is the last one of those that are tried of which this is so, and which takes less than all before it of which it is so. None where no version takes so
+/// much less than the program itself, where a loop of it is open, or where something refuses it. Each is fitted with a loop file: the program with the one that
+/// is given, a version with one that is made by that; or else each with a draft of its loops. A version is left out where it has no such file, where a loop of
+/// its draft is open, or where other inputs count. Which versions are tried isn't promised: at most 8. How far the runs are is told.
 pub fn choose_version<P: Progress>(
     alloc: Global,
     goal: &FitGoal<'_>,

@@ -9,19 +9,33 @@ ghost use Rattle.version_fits.specs.Goals.{IsFitBy, IsVersionFit};
 
 use crate::goal::FitGoal;
 use crate::loop_files::file_of_version;
-use crate::proposals::proposals_of;
+use crate::proposals::{cycles_of, proposals_of};
 use gain_tuner::GivenFiles;
 use pace_fit::{Fitted, Prepared, choose, prepare};
+use power_model::Power;
 use run_progress::Progress;
 use scale_base::{FILE_LIMIT, IMAGE_LIMIT, NoMemory, Stop};
 use std::alloc::Global;
 use versioned_images::Version;
 
-/// The numbers of a fitted image, and which inputs count.
+/// The numbers of a fitted image, and which inputs count; what is stored of it; and by input the cycles of the original's run, where it counts, and the energy
+/// units of a cycle at the level at which `hold` runs it.
 #[derive(Drop)]
 pub struct Fit {
     pub fitted: Fitted,
     pub flags: Vec<bool>,
+    pub stored: Vec<u8>,
+    pub cycles: Vec<Option<u64>>,
+    pub rate: u128,
+}
+
+// The energy units of a cycle at a level.
+fn rate_of(power: &Power, level: u8) -> u128 {
+    if level < power.levels.count() {
+        u128::from(power.levels.get(level).energy)
+    } else {
+        0
+    }
 }
 
 // What a prepared program takes.
@@ -42,10 +56,15 @@ fn fit_prepared<P: Progress>(
         (map (λ input. input.items) given.now.inputs.now) fit.flags.items fit.fitted) }
 {
     let proposals = proposals_of(alloc, given, &prepared.endings, progress)?;
-    let chosen = choose(alloc, given, &prepared, &proposals, progress)?;
+    let (stored, fitted) = choose(alloc, given, &prepared, &proposals, progress)?;
+    let cycles = cycles_of(alloc, &prepared.endings)?;
+    let rate = rate_of(&prepared.power, prepared.summary.start);
     Ok(Fit {
-        fitted: chosen.1,
+        fitted,
         flags: prepared.flags,
+        stored,
+        cycles,
+        rate,
     })
 }
 

@@ -8,6 +8,7 @@ mod fits;
 mod goal;
 mod loop_files;
 mod proposals;
+mod trying;
 
 pub use choosing::{ChosenVersion, choose_version};
 pub use goal::FitGoal;

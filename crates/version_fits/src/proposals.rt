@@ -19,8 +19,8 @@ fn counted_cycles(ending: &Ending) -> Option<u64> {
     }
 }
 
-// The cycles of each run whose input counts.
-fn cycles_of(alloc: Global, endings: &[Ending]) -> Result<Vec<Option<u64>>, NoMemory>
+/// The cycles of each run whose input counts.
+pub fn cycles_of(alloc: Global, endings: &[Ending]) -> Result<Vec<Option<u64>>, NoMemory>
     ensures { IfOk result (λ cycles. length cycles.items ≡ length endings.now) }
 {
     let mut cycles = Vec::new(alloc);
