@@ -200,22 +200,88 @@ fn is_taken(alloc: Global, said: &Said<'_>) -> Result<bool, Fail> {
 /// What loads give: the load, the table, from which number on up to how many more, and by how many; and whether it is taken.
 static LOADS: [(&str, u32, &[u8], (u64, u64, u64), bool); 17] = [
     ("as it is", LBU, &TABLE_BYTES, (3, 6, 1), true),
-    ("the least one left out", LBU, &TABLE_BYTES, (4, 5, 1), false),
-    ("the greatest one left out", LBU, &TABLE_BYTES, (3, 5, 1), false),
-    ("that of the last address left out", LBU, &[3, 5, 8, 9], (3, 5, 1), false),
+    (
+        "the least one left out",
+        LBU,
+        &TABLE_BYTES,
+        (4, 5, 1),
+        false,
+    ),
+    (
+        "the greatest one left out",
+        LBU,
+        &TABLE_BYTES,
+        (3, 5, 1),
+        false,
+    ),
+    (
+        "that of the last address left out",
+        LBU,
+        &[3, 5, 8, 9],
+        (3, 5, 1),
+        false,
+    ),
     ("by twos", LBU, &[3, 9, 5, 7], (3, 6, 2), true),
-    ("by twos, with one between", LBU, &TABLE_BYTES, (3, 6, 2), false),
-    ("with its sign", LB, &SIGNED_BYTES, (0xFFFF_FFFE, 4, 1), true),
+    (
+        "by twos, with one between",
+        LBU,
+        &TABLE_BYTES,
+        (3, 6, 2),
+        false,
+    ),
+    (
+        "with its sign",
+        LB,
+        &SIGNED_BYTES,
+        (0xFFFF_FFFE, 4, 1),
+        true,
+    ),
     ("without the sign", LB, &SIGNED_BYTES, (0, 254, 1), false),
-    ("with a sign that isn't loaded", LBU, &SIGNED_BYTES, (0xFFFF_FFFE, 4, 1), false),
+    (
+        "with a sign that isn't loaded",
+        LBU,
+        &SIGNED_BYTES,
+        (0xFFFF_FFFE, 4, 1),
+        false,
+    ),
     ("without a sign", LBU, &SIGNED_BYTES, (0, 254, 1), true),
-    ("of two bytes", LHU, &TABLE_BYTES, (0x0805, 0xFE, 0xFE), true),
+    (
+        "of two bytes",
+        LHU,
+        &TABLE_BYTES,
+        (0x0805, 0xFE, 0xFE),
+        true,
+    ),
     ("of one for two", LHU, &TABLE_BYTES, (3, 6, 1), false),
-    ("of two for one", LBU, &TABLE_BYTES, (0x0805, 0xFE, 1), false),
-    ("of two, with the sign", LH, &[0xFF, 0xFF, 5, 0], (0xFFFF_FFFF, 6, 6), true),
-    ("of two, without the sign", LH, &[0xFF, 0xFF, 5, 0], (5, 0xFFFA, 1), false),
+    (
+        "of two for one",
+        LBU,
+        &TABLE_BYTES,
+        (0x0805, 0xFE, 1),
+        false,
+    ),
+    (
+        "of two, with the sign",
+        LH,
+        &[0xFF, 0xFF, 5, 0],
+        (0xFFFF_FFFF, 6, 6),
+        true,
+    ),
+    (
+        "of two, without the sign",
+        LH,
+        &[0xFF, 0xFF, 5, 0],
+        (5, 0xFFFA, 1),
+        false,
+    ),
     ("of four bytes", LW, &TABLE_BYTES, (0x0805_0903, 0, 1), true),
-    ("the highest byte first", LW, &TABLE_BYTES, (0x0309_0508, 0, 1), false),
+    (
+        "the highest byte first",
+        LW,
+        &TABLE_BYTES,
+        (0x0309_0508, 0, 1),
+        false,
+    ),
 ];
 
 #[test]
@@ -238,23 +304,75 @@ fn loads_give_what_the_bytes_are(rt: HostRuntime) -> Result<(), Fail> {
 /// Bytes that are said to be changed by no store: the flags of the table's segment, the bytes, and whether they are taken.
 static PARTS: [(&str, u32, &[Part<'static>], bool); 14] = [
     ("as they are", READ, &[(TABLE, &TABLE_BYTES)], true),
-    ("in two parts", READ, &[(TABLE, &[3, 9]), (TABLE + 2, &[5, 8])], true),
+    (
+        "in two parts",
+        READ,
+        &[(TABLE, &[3, 9]), (TABLE + 2, &[5, 8])],
+        true,
+    ),
     ("none", READ, &[], false),
-    ("without the first one", READ, &[(TABLE + 1, &[9, 5, 8])], false),
+    (
+        "without the first one",
+        READ,
+        &[(TABLE + 1, &[9, 5, 8])],
+        false,
+    ),
     ("without the last one", READ, &[(TABLE, &[3, 9, 5])], false),
     ("another byte", READ, &[(TABLE, &[3, 9, 5, 7])], false),
-    ("one twice", READ, &[(TABLE, &TABLE_BYTES), (TABLE + 1, &[9])], true),
-    ("one twice, once another", READ, &[(TABLE, &TABLE_BYTES), (TABLE + 1, &[8])], false),
-    ("a byte in no segment", READ, &[(TABLE - 1, &[1, 3, 9, 5, 8])], false),
-    ("a byte 0 in no segment", READ, &[(TABLE - 1, &[0, 3, 9, 5, 8])], true),
-    ("on to what may be written", READ, &[(TABLE, &[3, 9, 5, 8, 0])], false),
-    ("all may be written", READ_AND_WRITE, &[(TABLE, &TABLE_BYTES)], false),
-    ("of the stack, too", READ, &[(TABLE, &TABLE_BYTES), (0x7FFF_FFEF, &[0])], false),
-    ("of the text, too", READ, &[(TABLE, &TABLE_BYTES), (0x10000, &[0xB7, 0x07])], true),
+    (
+        "one twice",
+        READ,
+        &[(TABLE, &TABLE_BYTES), (TABLE + 1, &[9])],
+        true,
+    ),
+    (
+        "one twice, once another",
+        READ,
+        &[(TABLE, &TABLE_BYTES), (TABLE + 1, &[8])],
+        false,
+    ),
+    (
+        "a byte in no segment",
+        READ,
+        &[(TABLE - 1, &[1, 3, 9, 5, 8])],
+        false,
+    ),
+    (
+        "a byte 0 in no segment",
+        READ,
+        &[(TABLE - 1, &[0, 3, 9, 5, 8])],
+        true,
+    ),
+    (
+        "on to what may be written",
+        READ,
+        &[(TABLE, &[3, 9, 5, 8, 0])],
+        false,
+    ),
+    (
+        "all may be written",
+        READ_AND_WRITE,
+        &[(TABLE, &TABLE_BYTES)],
+        false,
+    ),
+    (
+        "of the stack, too",
+        READ,
+        &[(TABLE, &TABLE_BYTES), (0x7FFF_FFEF, &[0])],
+        false,
+    ),
+    (
+        "of the text, too",
+        READ,
+        &[(TABLE, &TABLE_BYTES), (0x10000, &[0xB7, 0x07])],
+        true,
+    ),
 ];
 
 #[test]
-fn bytes_are_taken_that_the_image_has_where_nothing_may_be_written(rt: HostRuntime) -> Result<(), Fail> {
+fn bytes_are_taken_that_the_image_has_where_nothing_may_be_written(
+    rt: HostRuntime,
+) -> Result<(), Fail> {
     for (name, flags, parts, want) in &PARTS {
         let said = Said {
             flags: *flags,
