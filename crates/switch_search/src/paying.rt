@@ -100,8 +100,9 @@ fn pays<P: Progress>(
 ) -> Result<bool, Stop> {
     let files = &tries.files;
     match pace_useful(alloc, files.image, files.machine, files.loops, proposal) {
-        Ok(Some(made)) => Ok(saves(alloc, tries, &made.0, progress)?
-            && !loses(alloc, tries, &made.0, progress)?),
+        Ok(Some(made)) => Ok(
+            saves(alloc, tries, &made.0, progress)? && !loses(alloc, tries, &made.0, progress)?,
+        ),
         Ok(None) => Ok(false),
         Err(Stop::Refused(_)) => Ok(false),
         Err(Stop::Memory) => Err(Stop::Memory),

@@ -21,8 +21,8 @@ use power_model::Power;
 use program_sources::Sources;
 use run_progress::Progress;
 use run_traces::{
-    DerivedRun, EdgeTrace, Numbers, ProgramInputs, RunMarks, Runs, StubCosts, WalkPlan, derived_runs,
-    numbers_of,
+    DerivedRun, EdgeTrace, Numbers, ProgramInputs, RunMarks, Runs, StubCosts, WalkPlan,
+    derived_runs, numbers_of,
 };
 use scale_base::{NoMemory, Stop};
 use std::alloc::Global;

@@ -4,8 +4,8 @@
 ghost use Rattle.std.specs.Prelude.{◌<◌};
 
 use crate::apart::raised;
-use crate::areas::access_of;
 use crate::arcs::{WORDS, ahead, holds, kept, only, shorter};
+use crate::areas::access_of;
 use crate::passing::Step;
 use crate::program::Program;
 use crate::rows::within;
