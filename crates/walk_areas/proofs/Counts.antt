@@ -25,12 +25,12 @@ use Rattle.bound_laws.proofs.Laws.{KeptStep, At, Onward, Way, fetched, over_edge
 use Rattle.stack_laws.specs.Areas.{IsLaidOut}
 use Rattle.stack_laws.specs.Stacks.{Stacks, View, view_of, IsRestored, IsSafe, IsStackInvariant, AreTold}
 use Rattle.stack_laws.proofs.Laws.{Holds, Returned, over_holds, call_holds, back_holds}
-use Rattle.walk_areas.specs.Walking.{Trace, IsTraced, IsWider, Place, number_in, WalkCertificate, IsWalkCertificate, IsRowBack, IsWordBack, IsPlaceBack, IsPossible}
+use Rattle.walk_areas.specs.Walking.{Trace, IsTraced, IsWider, Place, number_in, WalkCertificate, IsWalkCertificate, IsRowBack, IsWordBack, IsPlaceBack, IsHolderBack, IsPossible}
 use Rattle.walk_areas.specs.Walking.Place.{in_register, in_word}
 use Rattle.walk_areas.specs.Laws.{WalkCertificatesBoundTurns}
 use Rattle.walk_areas.proofs.Traces.{wider_in, same_in}
-use Rattle.walk_areas.proofs.Facts.{Facts, few, fresh, turned}
-use Rattle.walk_areas.proofs.Steps.{row_over, word_over, place_over, touches}
+use Rattle.walk_areas.proofs.Facts.{Facts, IsGiven, aimed, few, fresh, given_same, turned}
+use Rattle.walk_areas.proofs.Steps.{row_over, word_over, place_over, touches, holder_over}
 use Rattle.walk_areas.proofs.Turns.{Level, Mode, IsPassedOn, turned as turned_so, along_edge, along_call, along_return, after_edge, after_call_to}
 use Rattle.walk_areas.proofs.Turns.Mode.{at_level}
 use Rattle.walk_areas.proofs.Turns.Level.{within, elsewhere}
@@ -47,10 +47,10 @@ module _ (t : Text) (env : Setting) (ok : IsTextOf t env) (code : Code) (is : Is
   h = l.header k
 
   abbrev F : ℕ → ℕ → View → Type 0
-  F = Facts w.areas c cert.ground
+  F = Facts w.areas w.fixed c cert.ground
 
   abbrev fewer_than : (a n : ℕ) (x : View) → F a n x → n * c.least ≤ c.width
-  fewer_than = few w.areas c cert.ground
+  fewer_than = few w.areas w.fixed c cert.ground
 
   abbrev Passed : ℕ → ℕ → ℕ → View → Type 0
   Passed = IsPassedOn t g v w h (l.inside k) c cert F fewer_than
@@ -105,7 +105,7 @@ module _ (t : Text) (env : Setting) (ok : IsTextOf t env) (code : Code) (is : Is
           turned t g v w h (l.inside k) c cert count facts.first facts.second (view_of w begun next.regs next.bytes) q.first q.second
           (place_over env laid.keyless v w inv.offsets u at.over.zero at.over.size begun now.told i fetch x went c cert.ground count facts c.first q.first q.first_over)
           (place_over env laid.keyless v w inv.offsets u at.over.zero at.over.size begun now.told i fetch x went c cert.ground count facts c.second q.second q.second_over) q.moved
-          (touches env laid.keyless v w inv.offsets u at.over.zero at.over.size begun now.told i fetch x went c cert.ground count facts laid q.touched);
+          (touches env laid.keyless v w inv.offsets u at.over.zero at.over.size begun now.told i fetch x went c cert.ground count facts now.memory laid h e q.touched);
       on = λ other _ on. record {
         first = facts.first;
         second = facts.second;
@@ -114,8 +114,10 @@ module _ (t : Text) (env : Setting) (ok : IsTextOf t env) (code : Code) (is : Is
             (cert.along u.pc next.pc r i steps now.told.registers.live inside on other there.1 (possible_on next.pc refl) q);
         words = λ j. word_over env laid.keyless v w inv.offsets u at.over.zero at.over.size begun now.told i fetch x went c cert.ground count facts j (c.word next.pc j)
             (cert.along_words u.pc next.pc j i steps now.told.registers.live inside on other there.1 (possible_on next.pc refl));
-        touched = λ q. touches env laid.keyless v w inv.offsets u at.over.zero at.over.size begun now.told i fetch x went c cert.ground count facts laid
+        touched = λ q. touches env laid.keyless v w inv.offsets u at.over.zero at.over.size begun now.told i fetch x went c cert.ground count facts now.memory laid next.pc refl
             (cert.along_touched u.pc next.pc i steps now.told.registers.live inside on other there.1 (possible_on next.pc refl) q);
+        holder = holder_over env laid.keyless v w inv.offsets u at.over.zero at.over.size begun now.told i fetch x went c cert.ground count facts now.memory laid (c.holder next.pc)
+            (cert.along_holder u.pc next.pc i steps now.told.registers.live inside on other there.1 (possible_on next.pc refl));
       };
     }
 
@@ -138,6 +140,14 @@ module _ (t : Text) (env : Setting) (ok : IsTextOf t env) (code : Code) (is : Is
     place_back (in_register r) b q = row_back r q.0 b q.1
     place_back (in_word j) b q = word_back j b q
 
+    holder_back : (b : Option ℕ) → IsHolderBack t v w c u back.to b → (r : ℕ) → b ≡ Some r → IsGiven w.areas w.fixed c (aimed c facts.first facts.second) (reg next.regs r)
+    holder_back b q r is = ⊎_elim (λ (none : b ≡ None). let e : None ≡ Some r = sym none ∙ is in let bad : ⊥ = cc in absurd bad)
+        (λ (n : (j : ℕ) × IsRegister j × (b ≡ Some j) × (c.holder u ≡ Some j) × IsRestored t v w u back.to j).
+        let same : Some n.0 ≡ Some r = sym n.2 ∙ is in
+        let e : n.0 ≡ r = cc in
+        subst (λ j. IsGiven w.areas w.fixed c (aimed c facts.first facts.second) (reg next.regs j)) e
+        (given_same w.areas w.fixed c (aimed c facts.first facts.second) (reg y.regs n.0) (reg next.regs n.0) (sym (back.alike n.0 n.1 n.4).0) (facts.holder n.0 n.3))) q
+
     back_passed : Leads g u next.pc → Passed u next.pc count then
     back_passed leads = record {
       anew = λ e. anew then;
@@ -152,6 +162,7 @@ module _ (t : Text) (env : Setting) (ok : IsTextOf t env) (code : Code) (is : Is
         rows = λ r q. row_back r q (c.row next.pc r) (cert.back u back.to next.pc r back.call leads back.told.registers.live inside on other q);
         words = λ j. word_back j (c.word next.pc j) (cert.back_words u back.to next.pc j back.call leads back.told.registers.live inside on other);
         touched = λ q. facts.touched (cert.back_touched u back.to next.pc back.call leads back.told.registers.live inside on other q);
+        holder = holder_back (c.holder next.pc) (cert.back_holder u back.to next.pc back.call leads back.told.registers.live inside on other);
       };
     }
 

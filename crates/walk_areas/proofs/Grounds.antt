@@ -5,7 +5,7 @@ use Rattle.bound_laws.specs.Values.{Arc, IsIn, IsHeld, ahead, Covers, meet_of}
 use Rattle.bound_laws.proofs.Laws.{in_covers, meet_of_in}
 use Rattle.stack_laws.specs.Areas.{AreDisjoint}
 use Rattle.stack_laws.proofs.Laws.{disjoint}
-use Rattle.walk_areas.specs.Walking.{WalkCertificate, IsBeyond, IsOnGround, IsGround}
+use Rattle.walk_areas.specs.Walking.{WalkCertificate, IsBeyond, IsOnGround, IsBarren, IsSearched, IsGround}
 
 -- so much of the interval is behind the address, by the way of the walk
 abbrev pub IsPast : Bool → Arc → (at n : ℕ) → Type 0
@@ -35,7 +35,7 @@ no_way x y a b s gap inside there e le less beyond =
     let n : ahead x.low b ≤ x.more + gap = (let near = inside.near in omega arith) in
     disjoint x.low (x.more + gap) y.low y.more b inside.start there.start there.word n there.near beyond.0 beyond.1
 
--- an address in the place and in an area is in an interval of the ground
+-- an address in the place and in an area that isn't barren is in an interval of the ground
 record IsGrounded (ground : ℕ → Option Arc) (at : ℕ) : Type 0 where
   number : ℕ
   interval : Arc
@@ -46,16 +46,23 @@ in_neither : (place : Option Arc) (x : Arc) (at : ℕ) → IsHeld place at → I
 in_neither None x at a b h = h
 in_neither (Some i) x at a b h = disjoint i.low i.more x.low x.more at a.start b.start a.word a.near b.near h.0 h.1
 
-grounded : (ground : ℕ → Option Arc) (place : Option Arc) (x : Arc) (at : ℕ) → IsOnGround ground place x → IsHeld place at → IsIn x at → IsGrounded ground at
-grounded ground place x at on here inside = ⊎_elim
+held_there : (ground : ℕ → Option Arc) (place : Option Arc) (x : Arc) (at : ℕ) → IsOnGround ground place x → IsHeld place at → IsIn x at → IsGrounded ground at
+held_there ground place x at on here inside = ⊎_elim
     (λ (none : AreDisjoint place x). absurd (in_neither place x at here inside none))
     (λ (q : (j : ℕ) × (y : Arc) × (ground j ≡ Some y) × Covers (Some y) (meet_of place (Some x))).
     record { number = q.0; interval = q.1; interval_is = q.2; inside = in_covers (meet_of place (Some x)) (Some q.1) at (meet_of_in place (Some x) at here inside) q.3 }) on
 
+grounded : (fixed : ℕ → Option ℕ) (c : WalkCertificate) (x : Arc) (at : ℕ) → IsOnGround c.ground c.place x ⊎ IsSearched fixed c x → IsHeld c.place at → IsIn x at → (IsBarren fixed c.sought at → ⊥) → IsGrounded c.ground at
+grounded fixed c x at on here inside fertile = ⊎_elim
+    (λ (held : IsOnGround c.ground c.place x). held_there c.ground c.place x at held here inside)
+    (λ (all : IsSearched fixed c x). ⊎_elim
+    (λ (barren : IsBarren fixed c.sought at). absurd (fertile barren))
+    (λ (q : (j : ℕ) × (y : Arc) × (c.ground j ≡ Some y) × IsIn y at). record { number = q.0; interval = q.1; interval_is = q.2; inside = q.3 }) (all at here inside)) on
+
 some_same : (x y : Arc) → Some x ≡ Some y → x ≡ y
 some_same x y e = cc
 
-module _ (areas : ℕ → Option Arc) (c : WalkCertificate) (ground : IsGround areas c) where
+module _ (areas : ℕ → Option Arc) (fixed : ℕ → Option ℕ) (c : WalkCertificate) (ground : IsGround areas fixed c) where
   abbrev gap : ℕ
   gap = c.least + c.spread
 
@@ -95,14 +102,14 @@ module _ (areas : ℕ → Option Arc) (c : WalkCertificate) (ground : IsGround a
   abbrev pub IsGood : (count now : ℕ) → Type 0
   IsGood count now = (count ≡ 0) ⊎ IsStepped count now
 
-  -- an access shows where that is
-  pub shown : (count now : ℕ) → IsGood count now → IsHeld c.place now → (k : ℕ) (x : Arc) → areas k ≡ Some x → IsIn x now → IsHere c now (count * c.least)
-  shown count now good here k x e inside = ⊎_elim
+  -- an access to an address that isn't barren shows where that is
+  pub shown : (count now : ℕ) → IsGood count now → IsHeld c.place now → (k : ℕ) (x : Arc) → areas k ≡ Some x → IsIn x now → (IsBarren fixed c.sought now → ⊥) → IsHere c now (count * c.least)
+  shown count now good here k x e inside fertile = ⊎_elim
       (λ (none : count ≡ 0). record { number = j; interval = y; interval_is = f; inside = there; past = first c.down none })
       (λ (s : IsStepped count now). record { number = j; interval = y; interval_is = f; inside = there; past = on s }) good
     where
       on_ground : IsGrounded c.ground now
-      on_ground = grounded c.ground c.place x now (ground.holds k x e) here inside
+      on_ground = grounded fixed c x now (ground.holds k x e) here inside fertile
 
       j : ℕ
       j = on_ground.number
