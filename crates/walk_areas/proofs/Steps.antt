@@ -1,7 +1,7 @@
 -- What a step makes of values that depend on the numbers at the header, and where an access of it is.
 use Rattle.std.proofs.Common.{◌≡◌, ℕ, ◌+◌, ◌*◌, ◌<◌, ◌%◌, ◌^◌, ⊎_elim, ◌⊎◌, true, false, List, length, refl, sym, ap, ◌∙◌, subst, arith, Option, Some, None}
 use Rattle.std.specs.Prelude.{ℤ, ◌==◌, ◌||◌, ◌&&◌, not, nat_lt}
-use Rattle.std.proofs.lemmas.Bool.{cond_both, cond-false, and_parts, ltb-true, ne_eqb, eqb-refl}
+use Rattle.std.proofs.lemmas.Bool.{cond_both, cond-false, and_parts, ltb-true, ne_eqb, eq-eqb}
 use Rattle.std.proofs.Math.Nat.{mul_comm, mod-eq_of_lt}
 use Rattle.scale_base.specs.declared.instruction.LoadOp.{LoadOp}
 use Rattle.scale_base.specs.declared.instruction.LoadOp.TheVariants.{Lb, Lh, Lw, Lbu, Lhu}
@@ -52,7 +52,7 @@ held_word Lhu n h = h.word
 written_by : (op : LoadOp) (r rs1 : ℕ) (offset : ℤ) → IsRegister r → keeps r (Load op r rs1 offset) ≡ false
 written_by op r rs1 offset is =
     let zero : (r == 0) ≡ false = ne_eqb r 0 (λ e. let positive : 0 < r = is.0 in let bad : ⊥ = omega (arith, e, positive) in bad) in
-    ap (λ b. b || not (r == r)) zero ∙ ap not (eqb-refl r)
+    ap (λ b. b || not (r == r)) zero ∙ ap not (eq-eqb r r refl)
 
 -- the address of an access that is a load
 same_address : (op : LoadOp) (rd rs1 : ℕ) (offset : ℤ) (regs : List ℕ) (i : Instr) (r more : ℕ) → IsAccess i r more → i ≡ Load op rd rs1 offset → plus (reg regs r) more ≡ moved_by (reg regs rs1) offset

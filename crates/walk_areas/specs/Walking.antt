@@ -11,7 +11,8 @@ use Rattle.scale_base.specs.declared.instruction.ImmOp.TheVariants.{Addi, Slli}
 use Rattle.scale_base.specs.declared.instruction.RegOp.TheVariants.{Add}
 use Rattle.scale_base.specs.declared.instruction.Instr.{Instr}
 use Rattle.scale_base.specs.declared.instruction.Instr.TheVariants.{Load, Imm, Reg}
-use Rattle.scale_base.specs.Arith.{unsigned, load_width, loaded}
+use Rattle.scale_base.specs.Arith.{unsigned, load_width}
+use Rattle.scale_base.specs.Arith as ops
 use Rattle.scale_base.specs.State.{reg}
 use Rattle.cost_theory.specs.Graph.{Graph, Loops}
 use Rattle.code_text.specs.Text.{Text, instr_at}
@@ -257,7 +258,7 @@ IsOnGround ground place area = AreDisjoint place area ⊎
 -- its width it traps.
 abbrev pub IsBarren : (fixed : ℕ → Option ℕ) → Option Sought → (at : ℕ) → Type 0
 IsBarren fixed None at = ⊥
-IsBarren fixed (Some s) at = at % load_width s.op ≡ 0 → (bytes : ℕ → ℕ) → AreFixedIn fixed bytes → IsIn s.wanted (loaded s.op bytes at) → ⊥
+IsBarren fixed (Some s) at = at % load_width s.op ≡ 0 → (bytes : ℕ → ℕ) → AreFixedIn fixed bytes → IsIn s.wanted (ops.loaded s.op bytes at) → ⊥
 
 -- each address of the area and of the place is so, or is in an interval of the ground
 abbrev pub IsSearched : (fixed : ℕ → Option ℕ) → WalkCertificate → (area : Arc) → Type 0
