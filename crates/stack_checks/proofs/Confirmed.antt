@@ -17,6 +17,7 @@ use Rattle.bound_laws.specs.Turning.{Leads, Calls}
 use Rattle.stack_laws.specs.Laws.{IsStackAnalysed}
 use Rattle.bound_laws.specs.Values.{Values, Steps, AreIn, IsHeld, IsRegister}
 use Rattle.stack_laws.specs.Areas.{AreAreas}
+use Rattle.stack_laws.specs.Fixed.{AreFixedIn, AreUnwritten}
 use Rattle.stack_laws.specs.Cells.{IsCellHeld}
 use Rattle.stack_laws.specs.Stacks.{Stacks, IsCellKept, IsPassed, AreEntered, AreBack, IsReturned, IsSparing, IsDescending, IsStackInvariant}
 use Rattle.wrapped_intervals.specs.declared.lines.Measure.{Measure}
@@ -70,6 +71,8 @@ invariant c is given = record {
   spared_calls = spared_calls;
   spares = spares;
   cells = cells;
+  unwritten = unwritten;
+  fixed = fixed;
 }
   where
     t : Text
@@ -141,10 +144,10 @@ edge_so c e k at along sound = record {
     source : address c k ≡ (graph c.graph.now).source e
     source = sym (address_is c k ((graph c.graph.now).source e) at)
 
-pub analysed : (c : StackClaim) → IsStackClaim c → c.view.now.keyed_segment ≡ None → IsStart (values_in c) (stacks_in c) c.view.now.entry → AreAreas (layout_of c.view.now) (stacks_in c).areas → ((j : ℕ) → IsCellHeld ((stacks_in c).cell j) (loaded_byte c.view.now)) → IsStackInvariant (text_in c) (text_graph (text_in c) c.graph.now.code) (values_in c) (stacks_in c) →
+pub analysed : (c : StackClaim) → IsStackClaim c → c.view.now.keyed_segment ≡ None → IsStart (values_in c) (stacks_in c) c.view.now.entry → AreAreas (layout_of c.view.now) (stacks_in c).areas → ((j : ℕ) → IsCellHeld ((stacks_in c).cell j) (loaded_byte c.view.now)) → AreUnwritten (layout_of c.view.now) (stacks_in c).fixed → AreFixedIn (stacks_in c).fixed (loaded_byte c.view.now) → IsStackInvariant (text_in c) (text_graph (text_in c) c.graph.now.code) (values_in c) (stacks_in c) →
     IsStackAnalysed c.view.now c.graph.now.code (claim_values c) (claim_stacks c)
 unfolding text_in values_in stacks_in
-analysed c is plain start areas cells given = record {
+analysed c is plain start areas cells unwritten fixed given = record {
   reached = is.graph_is.reached;
   invariant = given;
   beginning = start.beginning;
@@ -153,4 +156,6 @@ analysed c is plain start areas cells given = record {
   plain = plain;
   areas = areas;
   cells = cells;
+  unwritten = unwritten;
+  fixed = fixed;
 }

@@ -7,3 +7,4 @@ mod Solvings
 mod Reaching
 mod Cases
 mod Confirmed
+mod Fixing

@@ -1,11 +1,13 @@
 -- Scaffold: what the code confirms of stacks: register by register, word by word, line by line and edge by edge.
-use Rattle.std.specs.Prelude.{◌≡◌, ℕ, ℤ, ◌+◌, ◌*◌, ◌^◌, ◌<◌, ◌≤◌, ◌⊎◌, true, List, length, slice_get, is_some, Option, Some, None}
+use Rattle.std.specs.Prelude.{◌≡◌, ℕ, ℤ, ◌+◌, ◌*◌, ◌%◌, ◌^◌, ◌<◌, ◌≤◌, ◌⊎◌, true, false, List, length, slice_get, slice_index, is_some, Option, Some, None}
 use Rattle.std.specs.List.{All}
 use Rattle.scale_base.specs.declared.instruction.ImmOp.TheVariants.{Addi}
 use Rattle.scale_base.specs.declared.instruction.RegOp.TheVariants.{Add}
 use Rattle.scale_base.specs.declared.instruction.Instr.TheVariants.{Imm, Reg}
 use Rattle.scale_base.specs.declared.instruction.Instr.{Instr}
-use Rattle.scale_base.specs.Arith.{unsigned}
+use Rattle.scale_base.specs.Arith.{unsigned, load_width, loaded}
+use Rattle.scale_base.specs.Elf.{has}
+use Rattle.scale_base.specs.Image.{Image, LoadSegment, addresses_of, loaded_byte, stack, PF_W}
 use Rattle.scale_base.specs.Run.{STACK_POINTER}
 use Rattle.scale_base.specs.declared.ranges.Span.{Span}
 use Rattle.scale_base.specs.Spans.{in_span}
@@ -18,14 +20,16 @@ use Rattle.stack_laws.specs.Making.{IsLineMade, IsSide, IsSubtracted, IsSumBy}
 use Rattle.stack_laws.specs.Stacks.Name.{of_begin}
 use Rattle.stack_laws.specs.Stacks.{Stacks, name_span, IsBeginning, IsCoveredOver, IsLoadedTo, IsMissed, IsNamedOver, IsSpannedOver, IsStoredFrom, IsWordCovered, IsWordNamed, IsWordSpanned, ArePassed, IsPassed, IsCellKept, IsDescending, IsRestored, IsSafe, IsSparing, IsRegisterBack, IsNameBack, IsSpanBack, IsSumBack, IsWordBack, IsWordNameBack, IsWordSpanBack, AreEntered, AreBack, IsReturned}
 use Rattle.stack_laws.specs.Cells.{IsLoadedFrom}
+use Rattle.stack_laws.specs.Fixed.{AreFixedIn, GivesFixed}
 use Rattle.stack_laws.specs.Areas.{AreDisjoint, IsAccessedIn, IsSolvedTo}
 use Rattle.stack_laws.specs.Telling as telling
 use Rattle.stack_laws.specs.Digits as digits
 use Rattle.wrapped_intervals.specs.Small.{IsKept}
 use Rattle.stack_tables.specs.declared.tables.Cell.{Cell}
+use Rattle.stack_tables.specs.declared.tables.FixedPart.{FixedPart}
 use Rattle.stack_tables.specs.declared.tables.Told.{Told}
 use Rattle.stack_tables.specs.declared.tables.Dwindling.{Dwindling}
-use Rattle.stack_tables.specs.Tables.{IsStackClaim, address, cell_view, dwindling_view, stacks_in, text_in, told_view, values_in}
+use Rattle.stack_tables.specs.Tables.{IsStackClaim, address, cell_view, dwindling_view, has_address, stacks_in, text_in, told_view, values_in}
 use Rattle.stack_checks.specs.declared.cells.Loading.{Loading}
 use Rattle.stack_checks.specs.declared.solving.Based.{Based}
 use Rattle.stack_checks.specs.declared.ways.Way.{Way}
@@ -122,6 +126,38 @@ pub record IsSomeLoaded (loading : Loading) (cells : List Cell) : Type 0 where
   pub cell : Cell
   pub cell_is : slice_get cells number ≡ Some cell
   pub load : IsLoadOf loading cell
+
+-- ---- bytes that no store changes
+
+-- a load at an address gives a number of the interval, whatever memory has elsewhere, or traps since it isn't aligned
+abbrev pub GivesAt : (ℕ → Option ℕ) → Loading → ℕ → Type 0
+GivesAt fixed x at = at % load_width x.op ≡ 0 → (bytes : ℕ → ℕ) → AreFixedIn fixed bytes → IsHeld x.values (loaded x.op bytes at)
+
+-- the same at each address where it may be
+pub record IsGiven (fixed : ℕ → Option ℕ) (x : Loading) : Type 0 where
+  pub place : Arc
+  pub place_is : x.place ≡ Some place
+  pub gives : GivesFixed fixed x.op place x.values
+
+-- no address of a part is one of a span's
+abbrev pub IsApartFrom : Span → FixedPart → Type 0
+IsApartFrom span p = (at : ℕ) → has_address at p ≡ true → in_span span at ≡ false
+
+-- nor one of a segment's that may be written
+abbrev pub IsUnwrittenIn : LoadSegment → FixedPart → Type 0
+IsUnwrittenIn s p = has s.flags PF_W ≡ true → IsApartFrom (addresses_of s) p
+
+-- the image loads the bytes of a part
+abbrev pub HasBytes : Image → FixedPart → Type 0
+HasBytes image p = (k : ℕ) → k < length p.bytes.items → loaded_byte image (p.from + k) ≡ slice_index p.bytes.items k
+
+-- it does, where nothing may be written
+pub record IsFixedPart (image : Image) (p : FixedPart) : Type 0 where
+  pub below : IsApartFrom stack p
+  pub unwritten : All (λ s. IsUnwrittenIn s p) image.segments
+  pub bytes : HasBytes image p
+
+-- ---- what is told
 
 -- what is told before the instruction
 abbrev pub told_before : Way → ℕ → Option telling.Told

@@ -12,6 +12,7 @@ mod cells;
 mod confirming;
 mod dwindling;
 mod edges;
+mod fixed;
 mod lines;
 mod made;
 mod memory;

@@ -53,8 +53,8 @@ fn segment_at<'a>(view: &'a ImageView<'_>, at: u64) -> Option<Segment<'a>>
     None
 }
 
-// The byte at an address.
-fn byte_at(view: &ImageView<'_>, at: u64) -> u8
+/// The byte at an address.
+pub fn byte_at(view: &ImageView<'_>, at: u64) -> u8
     ensures { result ≡ loaded_byte view.now at }
 {
     match segment_at(view, at) {

@@ -13,6 +13,7 @@ ghost use Rattle.stack_checks.specs.Checked.{IsCoveredAlong, IsNamedAlong, IsOri
 use crate::accesses::is_covered_by_access;
 use crate::cells::is_cell_loaded;
 use crate::dwindling::is_limited_by;
+use crate::fixed::is_fixed_loaded;
 use crate::lines::is_solved;
 use crate::made::is_subtracted;
 use crate::origins::{Origin, origin_of};
@@ -78,7 +79,10 @@ fn is_covered_over(way: &Way<'_>, r: u8) -> bool
     if is_limited_by(way, r) {
         return true;
     }
-    is_solved_by_access(way, r)
+    if is_solved_by_access(way, r) {
+        return true;
+    }
+    is_fixed_loaded(way, r)
 }
 
 // ---- names

@@ -14,6 +14,7 @@ ghost use Rattle.value_checks.specs.Tables.{values_of};
 use crate::areas::are_areas;
 use crate::confirming::is_confirmed;
 use crate::edges::{is_alive, is_beginning};
+use crate::fixed::are_fixed;
 use crate::lines::are_lines_started;
 use crate::memory::are_cells_started;
 use stack_tables::{StackClaim, arc_at, begins};
@@ -117,6 +118,9 @@ pub fn is_stack_analysed(claim: &StackClaim<'_>) -> bool
         return false;
     }
     if !are_cells_started(claim) {
+        return false;
+    }
+    if !are_fixed(claim) {
         return false;
     }
     is_confirmed(claim)

@@ -16,7 +16,7 @@ use Rattle.stack_tables.specs.declared.tables.Dwindling.{Dwindling}
 use Rattle.stack_tables.specs.declared.tables.Name.{Name}
 use Rattle.stack_tables.specs.declared.tables.Word.{Word}
 use Rattle.stack_tables.specs.declared.claims.StackClaim.{StackClaim}
-use Rattle.stack_tables.specs.Tables.{IsStackClaim, IsUnknown, address, cell_view, claim_text, dwindling_at, dwindling_in, dwindling_rows, named, name_in, rows_view, arc_of, name_of_word, span_of_word, stacks_in, text_in, told_at, told_in, told_rows, values_in, words_at}
+use Rattle.stack_tables.specs.Tables.{IsStackClaim, IsUnknown, address, cell_view, claim_text, dwindling_at, dwindling_in, dwindling_rows, fixed_in, named, name_in, rows_view, arc_of, name_of_word, span_of_word, stacks_in, text_in, told_at, told_in, told_rows, values_in, words_at}
 use Rattle.value_checks.proofs.Laws.{beside_is}
 
 pub there : (c : StackClaim) (k : ℕ) → k < length c.graph.now.code.nodes → slice_get c.graph.now.code.nodes k ≡ Some (address c k)
@@ -115,6 +115,10 @@ cells_seen c j = refl
 pub areas_seen : (c : StackClaim) (k : ℕ) → slice_get c.stack.now.areas.items k ≡ (stacks_in c).areas k
 unfolding stacks_in
 areas_seen c k = refl
+
+pub fixed_seen : (c : StackClaim) (at : ℕ) → fixed_in c.stack.now.fixed.items at ≡ (stacks_in c).fixed at
+unfolding stacks_in
+fixed_seen c at = refl
 
 told_length : (rows : List (Vec Told Global)) → length (told_rows rows) ≡ length rows
 told_length rows = length-map rows (λ (row : Vec Told Global). row.items)

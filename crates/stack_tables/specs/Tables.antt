@@ -1,6 +1,6 @@
 -- Scaffold: a table of stacks as what `stack_laws` calls stacks: by address what stands beside it in the list of nodes, by register what stands in the
 -- row, and by number of a word what stands in the row of words.
-use Rattle.std.specs.Prelude.{◌≡◌, ℕ, ◌+◌, ◌*◌, ◌^◌, ◌<◌, ◌≤◌, ◌⊎◌, false, List, [], length, slice_get, slice_index, map, option_map, option_and_then, Option, Some, None, Ok, Vec}
+use Rattle.std.specs.Prelude.{◌≡◌, ℕ, ◌+◌, ◌-◌, ◌*◌, ◌^◌, ◌<◌, ◌≤◌, ◌⊎◌, ◌&&◌, nat_le, nat_lt, find, Bool, false, List, [], length, slice_get, slice_index, map, option_map, option_and_then, Option, Some, None, Ok, Vec}
 use Rattle.std.specs.List.{All}
 use Rattle.std.specs.declared.alloc.Global.{Global}
 use Rattle.scale_base.specs.declared.instruction.Instr.{Instr}
@@ -19,6 +19,7 @@ use Rattle.stack_laws.specs.Digits as digits
 use Rattle.wrapped_intervals.specs.Small.{row, IsKept, IsKeptOr, IsFoundOr}
 use Rattle.value_checks.specs.Tables.{beside, or_other, flag, values_of, AreSized}
 use Rattle.stack_tables.specs.declared.tables.Cell.{Cell}
+use Rattle.stack_tables.specs.declared.tables.FixedPart.{FixedPart}
 use Rattle.stack_tables.specs.declared.tables.Told.{Told}
 use Rattle.stack_tables.specs.declared.tables.Dwindling.{Dwindling}
 use Rattle.stack_tables.specs.declared.tables.Name.{Name}
@@ -87,6 +88,18 @@ dwindling_in row j = option_map dwindling_view (slice_get row j)
 abbrev pub dwindling_at : Code → StackTable → ℕ → List Dwindling
 dwindling_at code stack a = beside [] code.nodes (dwindling_rows stack.dwindling.items) a
 
+-- whether a part has an address, and its byte there
+abbrev pub has_address : ℕ → FixedPart → Bool
+has_address at p = nat_le p.from at && nat_lt at (p.from + length p.bytes.items)
+
+abbrev pub byte_of : ℕ → Option FixedPart → Option ℕ
+byte_of at None = None
+byte_of at (Some p) = slice_get p.bytes.items (at - p.from)
+
+-- the byte at an address, by the first part that has it
+abbrev pub fixed_in : List FixedPart → ℕ → Option ℕ
+fixed_in parts at = byte_of at (find (has_address at) parts)
+
 abbrev pub stacks_of : Code → StackTable → Stacks
 stacks_of code stack = record {
   name = λ a r. named (name_in (beside [] code.nodes stack.names.items a) r);
@@ -103,6 +116,7 @@ stacks_of code stack = record {
   told = λ a j. told_in (told_at code stack a) j;
   dwindling = λ a j. dwindling_in (dwindling_at code stack a) j;
   areas = λ k. slice_get stack.areas.items k;
+  fixed = λ at. fixed_in stack.fixed.items at;
 }
 
 -- the intervals of a word are short enough to be kept
@@ -170,6 +184,7 @@ pub record AreStacksSized (code : Code) (stack : StackTable) : Type 0 where
   pub dwindling_kept : All IsDwindlingRow stack.dwindling.items
   pub areas_few : length stack.areas.items ≤ 64
   pub areas_kept : All IsKept stack.areas.items
+  pub fixed_few : length stack.fixed.items ≤ 16
 
 -- two tables with their numbers for a program
 pub record IsStackClaim (c : StackClaim) : Type 0 where

@@ -5,6 +5,7 @@
 
 mod apart;
 mod claims;
+mod fixed;
 mod memory;
 mod names;
 mod predicates;
@@ -17,14 +18,15 @@ mod tables;
 
 pub use apart::{known_sum, known_sums};
 pub use claims::StackClaim;
+pub use fixed::{fixed_byte, fixed_load};
 pub use memory::{Storing, is_kept_by, is_loaded_from};
 pub use names::{is_same_name, more_of, name_span};
 pub use predicates::{
     is_live_at, is_missed_by, is_restored_by, is_safe_at, line_at, name_at, stored_word, word_at,
 };
 pub use reading::{
-    address, arcs, areas, begins, cells, dwindling, exits, form, instruction, is_live, is_restored,
-    is_spared, line, lines, name, name_of, span, span_of, told, word, word_count,
+    address, arcs, areas, begins, cells, dwindling, exits, fixed, form, instruction, is_live,
+    is_restored, is_spared, line, lines, name, name_of, span, span_of, told, word, word_count,
 };
 pub use safe::{descending, is_given_back, is_name_safe, is_safe};
 pub use sizes::is_stack_sized;
@@ -33,6 +35,6 @@ pub use stores::{
     stored_by, stored_from, word_number,
 };
 pub use tables::{
-    Cell, Dwindling, MOST_AREAS, MOST_CELLS, MOST_DWINDLING, MOST_TOLD, Name, StackTable, Told,
-    Word,
+    Cell, Dwindling, FixedPart, MOST_AREAS, MOST_CELLS, MOST_DWINDLING, MOST_PARTS, MOST_TOLD,
+    Name, StackTable, Told, Word,
 };

@@ -9,14 +9,14 @@ ghost use Rattle.code_text.specs.Text.{text_of};
 ghost use Rattle.stack_laws.specs.Stacks as stacks;
 ghost use Rattle.wrapped_intervals.specs.Small.{IsKept, IsKeptOr, measure_view, row};
 ghost use Rattle.value_checks.specs.Tables.{line_in, IsForm, IsLineKept};
-ghost use Rattle.stack_tables.specs.Tables.{HasKeptValues, IsDwindlingKept, IsStackClaim, IsToldKept, IsUnknown, IsWordKept, address, cell_view, dwindling_in, named, stacks_in, text_in, told_in, values_in};
+ghost use Rattle.stack_tables.specs.Tables.{HasKeptValues, IsDwindlingKept, IsStackClaim, IsToldKept, IsUnknown, IsWordKept, address, cell_view, dwindling_in, fixed_in, named, stacks_in, text_in, told_in, values_in};
 
 use crate::claims::StackClaim;
 use crate::rows::{
     arcs_row, begins_row, dwindling_row, exits_row, form_row, line_in_row, lines_row, live_row,
     name_in_row, names_row, restored_row, span_in_row, spared_row, told_row, word_in, words_row,
 };
-use crate::tables::{Cell, Dwindling, Name, Told, Word};
+use crate::tables::{Cell, Dwindling, FixedPart, Name, Told, Word};
 use code_text::instr_at;
 use elf_image::ImageView;
 use scale_base::Instr;
@@ -239,6 +239,14 @@ pub fn areas<'a>(claim: &StackClaim<'a>) -> &'a [Arc]
     ensures kept { All IsKept result.now }
 {
     &claim.stack.areas
+}
+
+/// The bytes that no store changes.
+pub fn fixed<'a>(claim: &StackClaim<'a>) -> &'a [FixedPart]
+    requires { IsStackClaim claim.now }
+    ensures { (at : ℕ) → fixed_in result.now at ≡ (stacks_in claim.now).fixed at }
+{
+    &claim.stack.fixed
 }
 
 /// What registers tell of others at node k.

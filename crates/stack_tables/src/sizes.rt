@@ -7,7 +7,8 @@ ghost use Rattle.stack_tables.specs.Tables.{AreStacksSized, HasKeptValues, IsDwi
 
 use crate::stores::MOST_WORDS;
 use crate::tables::{
-    Cell, Dwindling, MOST_AREAS, MOST_CELLS, MOST_DWINDLING, MOST_TOLD, StackTable, Told, Word,
+    Cell, Dwindling, MOST_AREAS, MOST_CELLS, MOST_DWINDLING, MOST_PARTS, MOST_TOLD, StackTable,
+    Told, Word,
 };
 use flow_graph::CodeGraph;
 use value_checks::{are_arcs_kept, are_rows_kept};
@@ -182,7 +183,8 @@ fn are_all_kept(stack: &StackTable) -> bool
 }
 
 /// Whether a table has a row for each node and each function of a graph, with intervals that are kept, rows of at most so many words
-/// and of at most so much that is told and so many that are divided, and at most so many numbers in memory and intervals of addresses.
+/// and of at most so much that is told and so many that are divided, and at most so many numbers in memory, intervals of addresses and
+/// parts whose bytes no store changes.
 pub fn is_stack_sized(graph: &CodeGraph, stack: &StackTable) -> bool
     ensures { result ≡ true → AreStacksSized graph.now.code stack.now }
 {
@@ -198,5 +200,6 @@ pub fn is_stack_sized(graph: &CodeGraph, stack: &StackTable) -> bool
         && stack.told.len() == nodes
         && stack.dwindling.len() == nodes
         && stack.areas.len() <= MOST_AREAS
+        && stack.fixed.len() <= MOST_PARTS
         && are_all_kept(stack)
 }

@@ -56,12 +56,22 @@ pub const MOST_DWINDLING: usize = 4;
 /// How many intervals of addresses a table has at most.
 pub const MOST_AREAS: usize = 64;
 
+/// How many parts of memory a table has at most whose bytes no store changes.
+pub const MOST_PARTS: usize = 16;
+
+/// Bytes that no store changes, from an address on.
+#[derive(Drop)]
+pub struct FixedPart {
+    pub from: u32,
+    pub bytes: Vec<u8>,
+}
+
 /// By node and register, before its instruction, where the value comes from and how far above the function's first x2 it points; by node
 /// and number, the words of the function's stack, of which nothing is known behind the last; by function, what x2 has when it begins, and
 /// which registers are at its returns what they were then; where the words of functions that wait for a call may be; and by node, whether
 /// nothing is stored to those words from here on up to the function's return, in what is called neither. Wherever the run is, numbers in
-/// memory that are always in an interval. By node, what registers tell of others, and which are divided while others count how often. And
-/// intervals of addresses that hold all that may be loaded from or stored to.
+/// memory that are always in an interval. By node, what registers tell of others, and which are divided while others count how often.
+/// Intervals of addresses that hold all that may be loaded from or stored to. And bytes that no store changes.
 #[derive(Drop)]
 pub struct StackTable {
     pub names: Vec<[Option<Name>; 32]>,
@@ -75,4 +85,5 @@ pub struct StackTable {
     pub told: Vec<Vec<Told>>,
     pub dwindling: Vec<Vec<Dwindling>>,
     pub areas: Vec<Arc>,
+    pub fixed: Vec<FixedPart>,
 }

@@ -129,8 +129,8 @@ pub fn ahead(low: u64, value: u64) -> u64
     (value % WORDS + (WORDS - low % WORDS)) % WORDS
 }
 
-// The greatest common divisor, where 0 is a multiple of all.
-fn common_divisor(mut a: u64, mut b: u64) -> u64 {
+/// The greatest common divisor, where 0 is a multiple of all.
+pub fn common_divisor(mut a: u64, mut b: u64) -> u64 {
     while b != 0 {
         let rest = a % b;
         a = b;

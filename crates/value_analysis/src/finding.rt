@@ -4,6 +4,7 @@ use crate::areas::areas_of;
 use crate::cells::{Cells, Place};
 use crate::copies::{add_copies, add_differences};
 use crate::dividing::Divided;
+use crate::fixed::fixed_parts;
 use crate::forms::Forms;
 use crate::growing::Growth;
 use crate::holding::narrow_numbers;
@@ -20,6 +21,7 @@ use elf_image::ImageView;
 use flow_graph::CodeGraph;
 use loop_forest::LoopTree;
 use scale_base::NoMemory;
+use stack_tables::FixedPart;
 use std::alloc::Global;
 
 /// How often intervals are narrowed.
@@ -140,10 +142,11 @@ fn forms_of(alloc: Global, program: &Program, tree: &LoopTree) -> Result<Forms, 
     Ok(forms)
 }
 
-/// A program that is analysed: its image, its nodes and ways, and the sums of two registers that are looked for.
+/// A program that is analysed: its image, the bytes of it that no store changes, its nodes and ways, and the sums of two registers that are looked for.
 #[derive(Clone, Copy)]
 struct Analysed<'a> {
     view: &'a ImageView<'a>,
+    fixed: &'a [FixedPart],
     program: &'a Program,
     forms: &'a Forms,
 }
@@ -157,7 +160,14 @@ impl Analysed<'_> {
     // Tables by numbers in memory but for some, if all stores keep those that are used. Those that they don't are added.
     fn try_cells(&self, alloc: Global, gone: &mut Vec<Place>) -> Result<Option<Tables>, NoMemory> {
         let cells = Cells::new(alloc, self.program.nodes.len(), gone, true)?;
-        let mut growth = Growth::new(alloc, self.program, self.forms, self.view, cells)?;
+        let mut growth = Growth::new(
+            alloc,
+            self.program,
+            self.forms,
+            self.view,
+            self.fixed,
+            cells,
+        )?;
         let mut state = State::blank();
         if !find_states(alloc, &mut growth, &mut state)? {
             return Ok(None);
@@ -173,7 +183,14 @@ impl Analysed<'_> {
     // Tables without numbers in memory. None where the program is too large: nothing of what was known is left then.
     fn try_plainly(&self, alloc: Global) -> Result<Option<Tables>, NoMemory> {
         let cells = Cells::new(alloc, self.program.nodes.len(), &[], false)?;
-        let mut growth = Growth::new(alloc, self.program, self.forms, self.view, cells)?;
+        let mut growth = Growth::new(
+            alloc,
+            self.program,
+            self.forms,
+            self.view,
+            self.fixed,
+            cells,
+        )?;
         let mut state = State::blank();
         if !find_states(alloc, &mut growth, &mut state)? {
             return Ok(None);
@@ -212,12 +229,16 @@ impl Analysed<'_> {
 pub fn analyse(alloc: Global, view: &ImageView<'_>, graph: &CodeGraph) -> Result<Tables, NoMemory> {
     let program = read_program(alloc, view, graph)?;
     let forms = Forms::new(alloc, program.nodes.len())?;
+    let fixed = fixed_parts(alloc, view)?;
     let analysed = Analysed {
         view,
+        fixed: &fixed,
         program: &program,
         forms: &forms,
     };
-    analysed.analyse(alloc)
+    let mut tables = analysed.analyse(alloc)?;
+    tables.stack.fixed = fixed;
+    Ok(tables)
 }
 
 /// Tables of a program, with sums of two registers by which its loops may end.
@@ -229,10 +250,14 @@ pub fn analyse_loops(
 ) -> Result<Tables, NoMemory> {
     let program = read_program(alloc, view, graph)?;
     let forms = forms_of(alloc, &program, tree)?;
+    let fixed = fixed_parts(alloc, view)?;
     let analysed = Analysed {
         view,
+        fixed: &fixed,
         program: &program,
         forms: &forms,
     };
-    analysed.analyse(alloc)
+    let mut tables = analysed.analyse(alloc)?;
+    tables.stack.fixed = fixed;
+    Ok(tables)
 }

@@ -8,6 +8,7 @@ use crate::areas::{access_of, areas_of};
 use crate::calls::{CallSite, Callee, come_back, enter};
 use crate::cells::Cells;
 use crate::dwindling::Dwindled;
+use crate::fixed::put_fixed;
 use crate::forms::Forms;
 use crate::holding::{look_at_memory, put_loaded};
 use crate::joining::{Change, Counts, Growing, Pace, grow_arc, grow_plain_row, word_key};
@@ -25,7 +26,7 @@ use crate::thresholds::{Limit, Threshold, add_ends, add_limit};
 use crate::ways::{Way, WayKind};
 use elf_image::ImageView;
 use scale_base::{Instr, NoMemory};
-use stack_tables::Name;
+use stack_tables::{FixedPart, Name};
 use std::alloc::Global;
 use std::collections::BinaryHeap;
 use wrapped_intervals::Arc;
@@ -100,6 +101,8 @@ pub struct Growth<'a> {
     pub program: &'a Program,
     pub forms: &'a Forms,
     pub view: &'a ImageView<'a>,
+    /// Bytes that no store changes.
+    pub fixed: &'a [FixedPart],
     /// Numbers in memory.
     pub cells: Cells,
     /// Where loads and stores may be.
@@ -143,6 +146,7 @@ impl<'a> Growth<'a> {
         program: &'a Program,
         forms: &'a Forms,
         view: &'a ImageView<'a>,
+        fixed: &'a [FixedPart],
         cells: Cells,
     ) -> Result<Growth<'a>, NoMemory> {
         let nodes = program.nodes.len();
@@ -153,6 +157,7 @@ impl<'a> Growth<'a> {
             program,
             forms,
             view,
+            fixed,
             cells,
             areas: areas_of(alloc, view)?,
             live: vec![in alloc; false; nodes]?,
@@ -258,6 +263,7 @@ impl<'a> Growth<'a> {
         }
         self.tell(step, from, way, to);
         put_loaded(&self.cells, step.instr, &from.row, &mut to.row);
+        put_fixed(self.fixed, step.instr, &from.row, &mut to.row);
         self.trace(step, from, way, to);
         self.dwindle(step, from, way, to);
         true

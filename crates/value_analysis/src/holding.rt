@@ -4,6 +4,7 @@ ghost use Rattle.std.specs.Prelude.{◌<◌};
 
 use crate::arcs::{fewer, joined, shorter};
 use crate::cells::{Cells, Place, loaded_place, loaded_values, stored_number};
+use crate::fixed::has_fixed;
 use crate::growing::Growth;
 use crate::tables::Row;
 use elf_image::ImageView;
@@ -115,6 +116,17 @@ fn store(growth: &mut Growth<'_>, k: usize, place: Place, stored: Arc) -> Result
     wait_for_loads(growth, number)
 }
 
+// Notes the load of a number at a node, where stores may change it.
+fn load(growth: &mut Growth<'_>, k: usize, place: Place) -> Result<(), NoMemory> {
+    if has_fixed(growth.fixed, place) {
+        return Ok(());
+    }
+    match number_of(growth, place)? {
+        Some(number) => growth.cells.note_load(k, number),
+        None => Ok(()),
+    }
+}
+
 /// Looks at what the instruction at a node loads and stores.
 pub fn look_at_memory(growth: &mut Growth<'_>, k: usize) -> Result<(), NoMemory> {
     let (Some(node), Some(facts)) = (growth.program.node(k), growth.facts.get(k)) else {
@@ -123,9 +135,7 @@ pub fn look_at_memory(growth: &mut Growth<'_>, k: usize) -> Result<(), NoMemory>
     let loaded = loaded_place(node.instr, &facts.row);
     let stored = stored_number(node.instr, &facts.row);
     if let Some(place) = loaded {
-        if let Some(number) = number_of(growth, place)? {
-            growth.cells.note_load(k, number)?;
-        }
+        load(growth, k, place)?;
     }
     match stored {
         Some((place, values)) => store(growth, k, place, values),

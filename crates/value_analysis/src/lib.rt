@@ -14,6 +14,7 @@ mod copies;
 mod dividing;
 mod dwindling;
 mod finding;
+mod fixed;
 mod forms;
 mod growing;
 mod holding;

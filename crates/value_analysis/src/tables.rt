@@ -43,6 +43,7 @@ impl Tables {
                 told: Vec::new(alloc),
                 dwindling: Vec::new(alloc),
                 areas: Vec::new(alloc),
+                fixed: Vec::new(alloc),
             },
         }
     }

@@ -22,5 +22,8 @@ returns-then-is_covered_by_access c so = inr (inr (inr (inr (inr (inl (c.if-is_c
 pub returns-then-is_limited_by : goal.returns-then-is_limited_by
 returns-then-is_limited_by c so = inr (inr (inr (inr (inr (inr (inl (c.if-is_limited_by.ensures refl)))))))
 
+pub returns-then-is_solved_by_access : goal.returns-then-is_solved_by_access
+returns-then-is_solved_by_access c so = inr (inr (inr (inr (inr (inr (inr (inl (c.if-is_solved_by_access.ensures refl))))))))
+
 pub returns : goal.returns
-returns c so = inr (inr (inr (inr (inr (inr (inr (c.is_solved_by_access.ensures so)))))))
+returns c so = inr (inr (inr (inr (inr (inr (inr (inr (c.is_fixed_loaded.ensures so))))))))
