@@ -5,7 +5,7 @@
 
 mod apart;
 mod claims;
-mod fixed;
+mod bytes;
 mod memory;
 mod names;
 mod predicates;
@@ -18,7 +18,7 @@ mod tables;
 
 pub use apart::{known_sum, known_sums};
 pub use claims::StackClaim;
-pub use fixed::{fixed_byte, fixed_load};
+pub use bytes::{fixed_byte, fixed_load};
 pub use memory::{Storing, is_kept_by, is_loaded_from};
 pub use names::{is_same_name, more_of, name_span};
 pub use predicates::{

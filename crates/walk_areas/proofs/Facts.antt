@@ -10,10 +10,10 @@ use Rattle.bound_laws.specs.Values.{Arc, IsIn, IsHeld, arc, strided, negated, ne
 use Rattle.bound_laws.proofs.Laws.{in_covers, in_word, negated_in}
 use Rattle.stack_laws.specs.Fixed.{AreFixedIn}
 use Rattle.stack_laws.specs.Stacks.{Stacks, View}
-use Rattle.walk_areas.specs.Walking.{Trace, traced, IsTraced, IsWider, multiplied, Place, number_in, Sought, WalkCertificate, pointer, steps_of, IsMoved, IsGround, IsBegun, IsWalkCertificate}
+use Rattle.walk_areas.specs.Walking.{Trace, traced, IsTraced, IsWider, multiplied, Place, number_in, Sought, WalkCertificate, pointer, steps_of, IsMoved, IsStep, IsGround, IsBegun, IsWalkCertificate}
 use Rattle.walk_areas.specs.Walking.Place.{in_register, in_word as in_stack}
 use Rattle.walk_areas.proofs.Traces.{wider_in, both_in, times_in, first_in, second_in}
-use Rattle.walk_areas.proofs.Grounds.{IsStep, IsHere, IsGood, few_good}
+use Rattle.walk_areas.proofs.Grounds.{IsHere, IsGood, few_good, good_anew}
 
 -- where the pointer points, by the numbers in both places at the header
 abbrev pub aimed : WalkCertificate → (first second : ℕ) → ℕ
@@ -131,8 +131,24 @@ module _ (t : Text) (g : Graph) (v : Values) (w : Stacks) (h : ℕ) (extent : �
     holder = λ r is. (let none : None ≡ Some r = sym cert.unheld ∙ is in let bad : ⊥ = cc in absurd bad);
   }
 
-  pub fresh : (x : View) → Facts w.areas w.fixed c cert.ground h 0 x
-  fresh x = begun 0 x (inl refl)
+  -- where the pointer points at the header
+  abbrev pub aimed_at : View → ℕ
+  aimed_at x = aimed c (number_in c.first x % 2 ^ 32) (number_in c.second x % 2 ^ 32)
+
+  pub fresh : (x : View) → IsHeld c.start (aimed_at x) → Facts w.areas w.fixed c cert.ground h 0 x
+  fresh x start = begun 0 x (inl (refl, start))
+
+  -- what is so after so many turns is so after none
+  pub anew : (count : ℕ) (x : View) → Facts w.areas w.fixed c cert.ground h count x → Facts w.areas w.fixed c cert.ground h 0 x
+  anew count x f = record {
+    first = f.first;
+    second = f.second;
+    good = good_anew w.areas w.fixed c cert.ground count (aimed c f.first f.second) f.good;
+    rows = f.rows;
+    words = f.words;
+    touched = λ on. absurd (both_ways (c.touched h) cert.untouched on);
+    holder = f.holder;
+  }
 
   moved_in : (z : Option Trace) (first second m n : ℕ) → IsMoved c z → IsTraced z first second (plus (c.first_factor * m % 2 ^ 32) (c.second_factor * n % 2 ^ 32)) → c.least + c.spread < 2 ^ 32 →
       HasStep c.down c.least c.spread (aimed c first second) (aimed c (m % 2 ^ 32) (n % 2 ^ 32))
@@ -154,4 +170,4 @@ module _ (t : Text) (g : Graph) (v : Values) (w : Stacks) (h : ℕ) (extent : �
       (times_in one first second m c.first_factor a) (times_in two first second n c.second_factor b) in
       let all = (cert.ground.short here.number here.interval here.interval_is).1 in
       let s : HasStep c.down c.least c.spread (aimed c first second) (aimed c (m % 2 ^ 32) (n % 2 ^ 32)) = moved_in (pointer c one two) first second m n moved is (omega arith) in
-      begun (count + 1) x (inr (record { before = count; count_is = refl; was = aimed c first second; here = here; step = s.step; steps = s.steps; low = s.low; high = s.high }))
+      begun (count + 1) x (inr (record { before = count; few = omega arith; was = aimed c first second; here = here; step = s.step; steps = s.steps; low = s.low; high = s.high }))

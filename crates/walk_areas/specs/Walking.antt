@@ -4,7 +4,8 @@
 -- longest area has steps. Where the interval of the address is known, only what the areas have in common with it counts. The pointer is a
 -- sum of multiples of two numbers, as a base and an index, each in a register or in a word of the stack. The code has to confirm edge by
 -- edge how values depend on both. Induction variables: Aho, Lam, Sethi and Ullman, Compilers, section 9.1. Where a turn goes on only if the
--- number that it loads is one of an interval, as each but 0, an address from which a load of fixed bytes gives another number ends the walk.
+-- number that it loads is one of an interval, as each but 0, an address from which a load of fixed bytes gives another number ends the walk:
+-- then it counts where the pointer is when the loop is entered, and how far it is from there to such an address.
 use Rattle.std.specs.Prelude.{◌≡◌, ◌≢◌, ℕ, ℤ, ◌+◌, ◌*◌, ◌/◌, ◌%◌, ◌^◌, ◌<◌, ◌≤◌, ◌⊎◌, ◌&&◌, nat_lt, Bool, true, false, Option, Some, None, if◌then◌else◌}
 use Rattle.scale_base.specs.declared.instruction.LoadOp.{LoadOp}
 use Rattle.scale_base.specs.declared.instruction.ImmOp.TheVariants.{Addi, Slli}
@@ -101,11 +102,12 @@ pub record WalkCertificate : Type 0 where
   pub least : ℕ
   pub spread : ℕ
   pub width : ℕ
-  -- the interval of the addresses that are accessed, where one is known
+  -- the interval of the addresses that are accessed, where one is known, and that of those that the first turn accesses
   pub place : Option Arc
+  pub start : Option Arc
   -- where something is sought: each access is a load of that kind, and the turn goes on only if it gives what is sought
   pub sought : Option Sought
-  -- intervals of addresses, by number, that hold what is in an area and in the place, but for addresses where nothing sought is
+  -- intervals of addresses, by number, that hold the addresses that are accessed while the turns go on
   pub ground : ℕ → Option Arc
   -- the code of the loop, with its header
   pub body : ℕ → Bool
@@ -254,23 +256,58 @@ abbrev pub IsOnGround : (ground : ℕ → Option Arc) → (place : Option Arc) �
 IsOnGround ground place area = AreDisjoint place area ⊎
     ((j : ℕ) × (y : Arc) × (ground j ≡ Some y) × Covers (Some y) (meet_of place (Some area)))
 
+-- The ground holds what is in an area and in the place, and no step leads from one of its intervals to another one, or round to the same.
+pub record IsOfAreas (areas : ℕ → Option Arc) (c : WalkCertificate) : Type 0 where
+  pub holds : (k : ℕ) (x : Arc) → areas k ≡ Some x → IsOnGround c.ground c.place x
+  pub apart : (k j : ℕ) (x y : Arc) → c.ground k ≡ Some x → c.ground j ≡ Some y → (k ≡ j) ⊎ IsBeyond x y (c.least + c.spread)
+
+-- a step of the walk from one address to the other one, up or down
+abbrev pub IsStep : Bool → (was step now : ℕ) → Type 0
+IsStep true was step now = was ≡ (now + step) % 2 ^ 32
+IsStep false was step now = now ≡ (was + step) % 2 ^ 32
+
 -- A load at the address gives nothing that is sought, whatever memory has elsewhere than in fixed bytes. Where the address isn't a multiple of
 -- its width it traps.
 abbrev pub IsBarren : (fixed : ℕ → Option ℕ) → Option Sought → (at : ℕ) → Type 0
 IsBarren fixed None at = ⊥
-IsBarren fixed (Some s) at = at % load_width s.op ≡ 0 → (bytes : ℕ → ℕ) → AreFixedIn fixed bytes → IsIn s.wanted (ops.loaded s.op bytes at) → ⊥
+IsBarren fixed (Some s) at = at % load_width s.op ≡ 0 → (bytes : ℕ → ℕ) → AreFixedIn fixed bytes →
+    IsIn s.wanted (ops.loaded s.op bytes at) → ⊥
 
--- each address of the area and of the place is so, or is in an interval of the ground
-abbrev pub IsSearched : (fixed : ℕ → Option ℕ) → WalkCertificate → (area : Arc) → Type 0
-IsSearched fixed c area = (at : ℕ) → IsHeld c.place at → IsIn area at →
-    IsBarren fixed c.sought at ⊎ ((j : ℕ) × (y : Arc) × (c.ground j ≡ Some y) × IsIn y at)
+-- The ground holds each address at which the first turn may access memory, but for those that are barren; and each step from one of its
+-- intervals stays in it, or leads to an address that is barren.
+pub record IsOfFixed (fixed : ℕ → Option ℕ) (c : WalkCertificate) : Type 0 where
+  pub begins : (at : ℕ) → IsHeld c.start at → IsHeld c.place at →
+      IsBarren fixed c.sought at ⊎ ((k : ℕ) × (x : Arc) × (c.ground k ≡ Some x) × IsIn x at)
+  pub goes_on : (k : ℕ) (x : Arc) (was step now : ℕ) → c.ground k ≡ Some x → IsIn x was → IsStep c.down was step now → c.least ≤ step →
+      step ≤ c.least + c.spread → now < 2 ^ 32 → IsHeld c.place now → IsBarren fixed c.sought now ⊎ IsIn x now
 
--- The ground holds what is in an area and in the place, but for what is barren, and no step leads from one of its intervals to another one, or
--- round to the same.
+-- no interval of the ground is wider than the width
 pub record IsGround (areas : ℕ → Option Arc) (fixed : ℕ → Option ℕ) (c : WalkCertificate) : Type 0 where
-  pub holds : (k : ℕ) (x : Arc) → areas k ≡ Some x → IsOnGround c.ground c.place x ⊎ IsSearched fixed c x
   pub short : (k : ℕ) (x : Arc) → c.ground k ≡ Some x → (x.more + c.least ≤ c.width) × (x.more + (c.least + c.spread) < 2 ^ 32)
-  pub apart : (k j : ℕ) (x y : Arc) → c.ground k ≡ Some x → c.ground j ≡ Some y → (k ≡ j) ⊎ IsBeyond x y (c.least + c.spread)
+  pub is : IsOfAreas areas c ⊎ IsOfFixed fixed c
+
+-- ---- where the loop is entered
+
+-- the interval of what is in a place behind the instruction at a, on the way to b
+pub data IsArcOver (v : Values) (w : Stacks) (a : ℕ) (i : Instr) (b : ℕ) (p : Place) (arc : Option Arc) : Type 0 where
+  register : (r : ℕ) → p ≡ in_register r → IsRegister r → arc ≡ passed i a b (v.at a) r → IsArcOver v w a i b p arc
+  missed : (k : ℕ) → p ≡ in_word k → IsMissed v w a i k → arc ≡ w.word a k → IsArcOver v w a i b p arc
+  stored : (k r : ℕ) → p ≡ in_word k → IsStoredFrom w a i k r → arc ≡ held (v.at a) r → IsArcOver v w a i b p arc
+
+-- the interval of the address of the access, by those of what is in both places
+abbrev pub aimed_in : WalkCertificate → Option Arc → Option Arc → Option Arc
+aimed_in c first second = sum_with (sum_of (scaled c.first_factor first) (scaled c.second_factor second)) c.at
+
+-- nothing is said of where the first turn accesses memory, or it is there by what is in the places
+pub record IsStartedBy (v : Values) (w : Stacks) (c : WalkCertificate) (a : ℕ) (i : Instr) (b : ℕ) : Type 0 where
+  pub first : Option Arc
+  pub second : Option Arc
+  pub first_over : IsArcOver v w a i b c.first first
+  pub second_over : IsArcOver v w a i b c.second second
+  pub covers : Covers c.start (aimed_in c first second)
+
+abbrev pub IsStarted : Values → Stacks → WalkCertificate → ℕ → Instr → ℕ → Type 0
+IsStarted v w c a i b = (c.start ≡ None) ⊎ IsStartedBy v w c a i b
 
 -- ---- a certificate
 
@@ -298,6 +335,12 @@ pub record IsWalkCertificate (t : Text) (g : Graph) (v : Values) (w : Stacks) (h
   pub entered : (a b : ℕ) → Leads g a b → v.live a ≡ true → c.body b ≡ true → b ≢ header → c.body a ≡ true
   pub called : (a b : ℕ) → Calls g a b → v.live a ≡ true → c.body b ≡ true → b ≡ header
   pub entry : c.body t.entry ≡ true → t.entry ≡ header
+  -- where the first turn accesses memory is known only of loops that are entered by edges of instructions that are no calls
+  pub starts : (a : ℕ) (i : Instr) → Steps g a header → v.live a ≡ true → c.body a ≡ false → instr_at t a ≡ Some i →
+      IsPossible v a i header → IsStarted v w c a i header
+  pub starts_called : (a : ℕ) → Calls g a header → v.live a ≡ true → c.start ≡ None
+  pub starts_back : (a to : ℕ) → Calls g a to → Leads g a header → v.live a ≡ true → c.body a ≡ false → c.start ≡ None
+  pub starts_entry : t.entry ≡ header → c.start ≡ None
   -- what is counted as a turn comes from the body
   pub counts : (a : ℕ) → Leads g a header → v.live a ≡ true → extent a ≡ true → c.body a ≡ true
   -- within the body each instruction keeps the traces, where a state may come
