@@ -1,10 +1,10 @@
 //! Bytes that no store changes, by address, and what loads of them give.
 
-ghost use Rattle.std.specs.Prelude.{◌≡◌, ◌≤◌, ◌<◌, ◌^◌, ℕ, IfSome};
+ghost use Rattle.std.specs.Prelude.{◌≡◌, ◌≤◌, ◌<◌, ◌^◌, ℕ, Some, IfSome, true};
 ghost use Rattle.scale_base.specs.Arith as ops;
 ghost use Rattle.scale_base.specs.State as state;
 ghost use Rattle.stack_laws.specs.Fixed.{AreFixedIn};
-ghost use Rattle.stack_tables.specs.Tables.{fixed_in, has_address};
+ghost use Rattle.stack_tables.specs.Tables.{byte_of, fixed_in, has_address};
 
 use crate::tables::FixedPart;
 use scale_base::LoadOp;
@@ -17,13 +17,21 @@ fn has_address(part: &FixedPart, at: u64) -> bool
     from <= at && at < from + part.bytes.len() as u64
 }
 
+// The byte of a part at one of its addresses.
+fn part_byte(part: &FixedPart, at: u64) -> u8
+    requires { has_address at part.now ≡ true }
+    ensures { byte_of at (Some part.now) ≡ Some result }
+{
+    part.bytes[(at - u64::from(part.from)) as usize]
+}
+
 /// The byte at an address, by the first part that has it.
 pub fn fixed_byte(parts: &[FixedPart], at: u64) -> Option<u8>
     ensures { result ≡ fixed_in parts.now at }
 {
     for part in parts {
         if has_address(part, at) {
-            return Some(part.bytes[(at - u64::from(part.from)) as usize]);
+            return Some(part_byte(part, at));
         }
     }
     None
