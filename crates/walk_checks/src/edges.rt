@@ -425,7 +425,10 @@ fn is_step_entering(case: &WalkCase<'_>, k: usize, n: usize) -> bool
     requires to { n < length case.now.claim.now.graph.now.code.nodes }
     ensures { result ≡ true → IsStepEntering case.now (at_of case.now k) (at_of case.now n) }
 {
-    if n != case.header || is_body(case, k) {
+    if n != case.header {
+        return true;
+    }
+    if is_body(case, k) {
         return true;
     }
     is_started_from(case, k, n)
@@ -438,7 +441,10 @@ fn is_back_elsewhere(case: &WalkCase<'_>, k: usize, n: usize) -> bool
     requires to { n < length case.now.claim.now.graph.now.code.nodes }
     ensures { result ≡ true → (cert case.now).body (at_of case.now k) ≡ false → at_of case.now n ≢ case.now.note.now.header }
 {
-    n != case.header || is_body(case, k)
+    if n != case.header {
+        return true;
+    }
+    is_body(case, k)
 }
 
 // Whether node n isn't the header.

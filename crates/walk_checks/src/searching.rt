@@ -1,7 +1,7 @@
 //! The ground of a walk over fixed bytes that looks for something: from each address at which the first turn may access memory on up to one
 //! where a load gives nothing that is sought.
 
-ghost use Rattle.std.specs.Prelude.{◌≡◌, ◌≤◌, ◌<◌, ◌+◌, ◌*◌, ◌%◌, ◌^◌, ⊥, ℕ, IfSome, length, true};
+ghost use Rattle.std.specs.Prelude.{◌≡◌, ◌≤◌, ◌<◌, ◌+◌, ◌*◌, ◌%◌, ◌^◌, ℕ, IfSome, is_some, length, true};
 ghost use Rattle.std.specs.List.{All};
 ghost use Rattle.scale_base.specs.Arith as ops;
 ghost use Rattle.bound_laws.specs.Values as values;
@@ -137,10 +137,10 @@ fn first_of(table: &WalkTable) -> Option<Arc>
 }
 
 // Whether a step from an interval leads within it, or to an address where nothing that is sought is.
-fn is_ending(parts: &[FixedPart], sought: Sought, least: u32, x: Arc) -> bool
-    requires wanted { IsKept sought.wanted }
+fn is_ending(search: &Search<'_>, least: u32, x: Arc) -> bool
+    requires wanted { IsKept search.now.sought.wanted }
     requires interval { IsKept x }
-    ensures { result ≡ true → IsEnding parts.now sought least x }
+    ensures { result ≡ true → IsEnding search.now.parts.now search.now.sought least x }
 {
     let least = u64::from(least);
     if least == 0 {
@@ -150,17 +150,17 @@ fn is_ending(parts: &[FixedPart], sought: Sought, least: u32, x: Arc) -> bool
         return false;
     }
     let behind = (x.low() + x.more() + least) % WORDS;
-    is_idle(parts, sought, behind as u32)
+    is_idle(search.parts, search.sought, behind as u32)
 }
 
 // The same of each one.
-fn are_ending(parts: &[FixedPart], sought: Sought, least: u32, ground: &[Arc]) -> bool
-    requires wanted { IsKept sought.wanted }
-    requires ground { All IsKept ground.now }
-    ensures { result ≡ true → All (λ (x : values.Arc). IsEnding parts.now sought least x) ground.now }
+fn are_ending(search: &Search<'_>, least: u32) -> bool
+    requires wanted { IsKept search.now.sought.wanted }
+    requires ground { All IsKept search.now.ground.now }
+    ensures { result ≡ true → All (λ (x : values.Arc). IsEnding search.now.parts.now search.now.sought least x) search.now.ground.now }
 {
-    for x in ground {
-        if !is_ending(parts, sought, least, *x) {
+    for x in search.ground {
+        if !is_ending(search, least, *x) {
             return false;
         }
     }
@@ -168,21 +168,36 @@ fn are_ending(parts: &[FixedPart], sought: Sought, least: u32, ground: &[Arc]) -
 }
 
 // Whether each first access is in an interval of the table, or nothing that is sought is there.
-fn is_begun_by(table: &WalkTable, parts: &[FixedPart], sought: Sought) -> bool
+fn is_begun_by(search: &Search<'_>, first: Option<Arc>) -> bool
+    requires wanted { IsKept search.now.sought.wanted }
+    requires ground { All IsKept search.now.ground.now }
+    ensures each { result ≡ true → IfSome first (λ x. (at : ℕ) → IsIn x at → IsBegunAt search.now.parts.now search.now.sought
+        search.now.ground.now at) }
+    ensures some { result ≡ true → is_some first ≡ true }
+{
+    match first {
+        Some(first) => is_kept(Some(first)) && are_begun(search, first),
+        None => false,
+    }
+}
+
+// Whether the intervals of a table hold all that is accessed of fixed bytes while this is found.
+fn is_searched_for(table: &WalkTable, parts: &[FixedPart], sought: Sought) -> bool
     requires wanted { IsKept sought.wanted }
     requires ground { All IsKept table.now.ground.items }
-    ensures { result ≡ true → (at : ℕ) → IsHeld table.now.start at → IsHeld table.now.place at →
+    ensures begins { result ≡ true → (at : ℕ) → IsHeld table.now.start at → IsHeld table.now.place at →
         IsBegunAt parts.now sought table.now.ground.items at }
+    ensures ends { result ≡ true → All (λ (x : values.Arc). IsEnding parts.now sought table.now.least x) table.now.ground.items }
 {
     let search = Search {
         parts,
         sought,
         ground: &table.ground,
     };
-    match first_of(table) {
-        Some(first) => is_kept(Some(first)) && are_begun(&search, first),
-        None => false,
+    if !is_begun_by(&search, first_of(table)) {
+        return false;
     }
+    are_ending(&search, table.least)
 }
 
 /// Whether the intervals of a table hold all that is accessed of fixed bytes while what is sought is found.
@@ -190,14 +205,13 @@ pub fn is_searched(table: &WalkTable, parts: &[FixedPart]) -> bool
     requires { All IsKept table.now.ground.items }
     ensures { result ≡ true → IsSearched parts.now table.now }
 {
-    let Some(sought) = table.sought else {
-        return false;
-    };
-    if table.down || table.spread != 0 || !is_kept(Some(sought.wanted)) {
-        return false;
+    match table.sought {
+        Some(sought) => {
+            if table.down || table.spread != 0 || !is_kept(Some(sought.wanted)) {
+                return false;
+            }
+            is_searched_for(table, parts, sought)
+        }
+        None => false,
     }
-    if !is_begun_by(table, parts, sought) {
-        return false;
-    }
-    are_ending(parts, sought, table.least, &table.ground)
 }

@@ -1,6 +1,6 @@
 //! Bounds that the code shows by a walk through memory.
 
-ghost use Rattle.std.specs.Prelude.{◌≡◌, ◌≤◌, ◌<◌, ◌/◌, ℕ, List, Some, true};
+ghost use Rattle.std.specs.Prelude.{◌≡◌, ◌≤◌, ◌<◌, ◌/◌, ℕ, List, None, Some, length, true};
 ghost use Rattle.std.specs.List.{All};
 ghost use Rattle.bound_laws.specs.Values as values;
 ghost use Rattle.bound_laws.specs.Values.{IsRegister};

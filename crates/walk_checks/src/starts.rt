@@ -73,7 +73,18 @@ fn word_on(case: &WalkCase<'_>, step: Step, number: u32) -> Option<Arc>
     }
 }
 
-// The interval of what is in a place behind an instruction, where it is known and short enough to be kept.
+// The interval, where it is short enough to be kept.
+fn short(i: Option<Arc>) -> Option<Arc>
+    ensures same { IfSome result (λ x. i ≡ Some x) }
+    ensures kept { IsKeptOr result }
+{
+    match i {
+        Some(x) => { if is_kept(Some(x)) { Some(x) } else { None } }
+        None => None,
+    }
+}
+
+// The interval of what is in a place behind an instruction.
 fn place_on(case: &WalkCase<'_>, step: Step, place: WalkPlace) -> Option<Arc>
     requires case { IsWalkCase case.now }
     requires step { IsStep case.now step }
@@ -112,18 +123,11 @@ fn aimed_in(table: &WalkTable, first: Option<Arc>, second: Option<Arc>) -> Optio
 
 // Whether it is in that of the table's first accesses.
 fn is_started_in(table: &WalkTable, first: Option<Arc>, second: Option<Arc>) -> bool
+    requires first { IsKeptOr first }
+    requires second { IsKeptOr second }
     ensures { result ≡ true → (nodes : List ℕ) → values.Covers table.now.start (walking.aimed_in (certificate_of nodes table.now) first second) }
 {
-    if !is_kept(first) {
-        return false;
-    }
-    if !is_kept(second) {
-        return false;
-    }
-    if !is_kept(table.start) {
-        return false;
-    }
-    covers(table.start, aimed_in(table, first, second))
+    is_kept(table.start) && covers(table.start, aimed_in(table, first, second))
 }
 
 /// Whether nothing is said of where the first turn accesses memory.
@@ -142,8 +146,8 @@ pub fn is_started_by(case: &WalkCase<'_>, step: Step) -> bool
 {
     let table = case.table;
     match (
-        place_on(case, step, table.first),
-        place_on(case, step, table.second),
+        short(place_on(case, step, table.first)),
+        short(place_on(case, step, table.second)),
     ) {
         (Some(first), Some(second)) => is_started_in(table, Some(first), Some(second)),
         _ => false,
