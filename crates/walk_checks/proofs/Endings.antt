@@ -1,9 +1,10 @@
 -- What is so at each address of an interval, and that an interval ends where nothing that is sought is.
-use Rattle.std.proofs.Common.{◌≡◌, ◌<◌, ◌≤◌, ◌+◌, ◌-◌, ◌*◌, ◌/◌, ◌%◌, ◌^◌, ◌×◌, ◌⊎◌, inl, inr, ⊎_elim, ℕ, zero, suc, List, refl, sym, ap, ◌∙◌, subst, arith, Some}
+use Rattle.std.proofs.Common.{◌≡◌, ◌<◌, ◌≤◌, ◌+◌, ◌-◌, ◌*◌, ◌/◌, ◌%◌, ◌^◌, ◌⊎◌, inl, inr, ⊎_elim, ℕ, zero, suc, List, refl, sym, ap, ◌∙◌, subst, arith, true, Option, Some, None}
+use Rattle.std.specs.Prelude.{is_some, IfSome}
 use Rattle.std.proofs.lemmas.Bool.{cases_lt}
 use Rattle.std.proofs.lemmas.Nat.{mul-le}
-use Rattle.std.proofs.Math.Nat.{le-div_iff_mul-le, mul-add, mul_comm, mul-le-mul_left}
-use Rattle.bound_laws.specs.Values.{Arc, IsIn, ahead}
+use Rattle.std.proofs.Math.Nat.{div-add-mod, le-div_iff_mul-le, mul-add, mul_comm, mul-le-mul_left}
+use Rattle.bound_laws.specs.Values.{Arc, IsIn, IsHeld, ahead}
 use Rattle.stack_tables.specs.declared.tables.FixedPart.{FixedPart}
 use Rattle.walk_checks.specs.declared.tables.Sought.{Sought}
 use Rattle.walk_checks.specs.Walked.{IsEnding, IsIdle}
@@ -23,7 +24,7 @@ number_at low at d word start behind = omega arith
 -- What is so at so many numbers of an interval, a stride from one to the next, is so at all of them.
 pub each_of : (P : ℕ → Type 0) (place : Arc) (steps : ℕ) → ((n : ℕ) → 0 < place.stride → place.stride * n ≤ place.more → n ≤ steps) → ((n : ℕ) → n < steps + 1 → P ((place.low + place.stride * n) % 2 ^ 32)) →
     (at : ℕ) → IsIn place at → P at
-each_of P place steps last each at inside = subst P (number_at place.low at (place.stride * number.0) inside.word inside.start (inside.step.1 ∙ number.1.1)) (each number.0 number.1.0)
+each_of P place steps last each at inside = subst P (number_at place.low at (place.stride * number.0) inside.word inside.start (inside.step.1 ∙ number.2)) (each number.0 number.1)
   where
     within : place.stride * inside.step.0 ≤ place.more
     within = let e = inside.step.1 in let near = inside.near in omega (arith, e, near)
@@ -32,7 +33,7 @@ each_of P place steps last each at inside = subst P (number_at place.low at (pla
     number = by place.stride refl
       where
         by : (stride : ℕ) → place.stride ≡ stride → (n : ℕ) × (n < steps + 1) × (place.stride * inside.step.0 ≡ place.stride * n)
-        by zero none = (0, omega arith, subst (λ (s : ℕ). s * inside.step.0 ≡ s * 0) (sym none) refl)
+        by zero none = (0, omega arith, subst (λ (s : ℕ). s * inside.step.0 ≡ s * 0) (sym none) (let z : 0 * inside.step.0 ≡ 0 * 0 = omega arith in z))
         by (suc s) some = (inside.step.0, (let few = last inside.step.0 (subst (λ (y : ℕ). 0 < y) (sym some) (omega arith)) within in omega (arith, few)), refl)
 
 -- ---- where an interval ends
@@ -70,3 +71,12 @@ ending_in parts s least x count stride more short idle was now inside e word = �
         let b : x.stride * 1 ≡ x.stride = omega arith in
         let f : x.stride * k ≡ least * k = ap (λ (n : ℕ). n * k) stride in
         omega (arith, a, b, f, d, stride)
+
+-- what is so at each address of an interval is so at those that it holds
+pub begun_for : (o start place : Option Arc) (B : ℕ → Type 0) → is_some o ≡ true → IfSome o (λ x. (at : ℕ) → IsHeld start at → IsHeld place at → IsIn x at) → IfSome o (λ x. (at : ℕ) → IsIn x at → B at) →
+    (at : ℕ) → IsHeld start at → IsHeld place at → B at
+begun_for None start place B some holds begun at a b = let bad : ⊥ = cc in absurd bad
+begun_for (Some x) start place B some holds begun at a b = begun at (holds at a b)
+
+pub whole_multiple : (more least : ℕ) → more % least ≡ 0 → more ≡ least * (more / least)
+whole_multiple more least none = let e : least * (more / least) + more % least ≡ more = div-add-mod more least in omega (arith, e, none)

@@ -1,6 +1,6 @@
 //! What stands at a node in a table of a walk.
 
-ghost use Rattle.std.specs.Prelude.{◌≡◌, ◌<◌, ℕ, [], None, false, length, slice_get, IfSome};
+ghost use Rattle.std.specs.Prelude.{◌≡◌, ◌<◌, ℕ, [], None, false, length, true, slice_get, IfSome};
 ghost use Rattle.value_checks.specs.Tables.{or_other};
 ghost use Rattle.stack_tables.specs.Tables.{values_in};
 ghost use Rattle.wrapped_intervals.specs.Small.{IsKeptOr};
@@ -77,6 +77,18 @@ pub fn holder_at(case: &WalkCase<'_>, k: usize) -> Option<u8>
     ensures { result ≡ (cert case.now).holder (at_of case.now k) }
 {
     holder_row(case.table, k)
+}
+
+/// Whether no register has it.
+pub fn is_unheld(case: &WalkCase<'_>, k: usize) -> bool
+    requires case { IsWalkCase case.now }
+    requires node { k < length case.now.claim.now.graph.now.code.nodes }
+    ensures { result ≡ true → (cert case.now).holder (at_of case.now k) ≡ None }
+{
+    match holder_at(case, k) {
+        Some(_) => false,
+        None => true,
+    }
 }
 
 // What stands in a row, and nothing behind its last one.

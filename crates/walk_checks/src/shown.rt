@@ -18,7 +18,7 @@ ghost use Rattle.walk_checks.specs.Walked.{at_of, cert, certificate_of, found_vi
 
 use crate::edges::is_edge_walked;
 use crate::ground::is_ground;
-use crate::rows::{holder_at, is_body, is_quiet, is_touched, row_at, words_at};
+use crate::rows::{is_body, is_quiet, is_touched, is_unheld, row_at, words_at};
 use crate::starts::has_no_start;
 use crate::tables::{Trace, WalkCase, WalkPlace, WalkTable, WordTrace};
 use crate::traces::{Found, is_wider_trace};
@@ -155,7 +155,7 @@ fn is_header_so(case: &WalkCase<'_>) -> bool
     if is_touched(case, case.header) {
         return false;
     }
-    if holder_at(case, case.header).is_some() {
+    if !is_unheld(case, case.header) {
         return false;
     }
     !is_quiet(case, case.header)

@@ -134,7 +134,10 @@ fn is_started_in(table: &WalkTable, first: Option<Arc>, second: Option<Arc>) -> 
 pub fn has_no_start(case: &WalkCase<'_>) -> bool
     ensures { result ≡ true → (cert case.now).start ≡ None }
 {
-    case.table.start.is_none()
+    match case.table.start {
+        Some(_) => false,
+        None => true,
+    }
 }
 
 /// Whether the first turn behind a step to the header accesses memory where the table says.

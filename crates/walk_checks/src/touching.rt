@@ -174,6 +174,16 @@ fn is_found(case: &WalkCase<'_>, step: Step) -> bool
     }
 }
 
+// Whether nothing is sought.
+fn has_none_sought(case: &WalkCase<'_>) -> bool
+    ensures { result ≡ true → (cert case.now).sought ≡ None }
+{
+    match case.table.sought {
+        Some(_) => false,
+        None => true,
+    }
+}
+
 // Whether it accesses memory, and nothing is sought.
 fn is_aimed_alone(case: &WalkCase<'_>, i: Instr, k: usize) -> bool
     requires case { IsWalkCase case.now }
@@ -181,7 +191,7 @@ fn is_aimed_alone(case: &WalkCase<'_>, i: Instr, k: usize) -> bool
     ensures alone { result ≡ true → (cert case.now).sought ≡ None }
     ensures aimed { result ≡ true → walking.IsAimed (values_in case.now.claim.now) (cert case.now) (at_of case.now k) i }
 {
-    case.table.sought.is_none() && is_aimed(case, i, k)
+    has_none_sought(case) && is_aimed(case, i, k)
 }
 
 /// Whether memory was accessed on the way, by its instruction or by one before it, and what is sought was found.
