@@ -36,6 +36,15 @@ pub if_some : {A : Type 0} {P Q : A → Type 0} (o : Option A) → ((x : A) → 
 if_some None f h = tt
 if_some (Some x) f h = f x h
 
+-- what holds of an interval, known or not, holds of one that is known
+pub if_known : (o : Option Arc) (P : Option Arc → Type 0) → P o → IfSome o (λ x. P (Some x))
+if_known None P h = tt
+if_known (Some x) P h = h
+
+-- and of that one
+pub of_known : (o : Option Arc) (x : Arc) (P : Arc → Type 0) → o ≡ Some x → IfSome o P → P x
+of_known o x P same h = subst (λ (y : Option Arc). IfSome y P) same h
+
 -- ---- what is found over an instruction, and behind a call
 
 module _ (v : Values) (w : Stacks) (c : WalkCertificate) (a : ℕ) (i : Instr) (r : ℕ) (z : Option Trace) where
