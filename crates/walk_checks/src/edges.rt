@@ -453,7 +453,10 @@ fn is_elsewhere(case: &WalkCase<'_>, n: usize) -> bool
     requires node { n < length case.now.claim.now.graph.now.code.nodes }
     ensures { result ≡ true → at_of case.now n ≢ case.now.note.now.header }
 {
-    n != case.header
+    if n == case.header {
+        return false;
+    }
+    true
 }
 
 // What an edge calls, if the first access is known.
