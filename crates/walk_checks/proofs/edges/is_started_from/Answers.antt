@@ -1,5 +1,4 @@
-use Rattle.std.proofs.Common.{◌∙◌, sym}
 use Rattle.walk_checks.proofs.edges.is_started_from.Goals as goal
 
 pub returns-in-Some : goal.returns-in-Some
-returns-in-Some c so = (c.in-Some.i, sym c.instruction.ensures ∙ c.in-Some.is, c.is_started_or_never.ensures so)
+returns-in-Some c so = (c.in-Some.i, c.in-Some.ensures, c.is_started_or_never.ensures so)
