@@ -124,11 +124,14 @@ fn table_of(
             0xE000_0000
         },
         place: place_of(graph, tables, other),
+        start: None,
+        sought: None,
         ground: Vec::new(alloc),
         body: Vec::new(alloc),
         rows: Vec::new(alloc),
         words: Vec::new(alloc),
         touched: Vec::new(alloc),
+        holders: Vec::new(alloc),
         quiet: Vec::new(alloc),
     };
     for area in &tables.stack.areas {
@@ -147,6 +150,7 @@ fn table_of(
             .push(row_of(alloc, if still { HEADER } else { at })?)?;
         table.words.push(Vec::new(alloc))?;
         table.touched.push(touched)?;
+        table.holders.push(None)?;
         table.quiet.push(false)?;
     }
     Ok(table)
