@@ -1,15 +1,13 @@
 //! Walks over bytes that no store changes, up to one where a load gives 0: where their first turn may access memory, and the runs of addresses from
 //! there on.
 
-ghost use Rattle.std.specs.Prelude.{◌<◌};
-
 use crate::grounds::Ground;
 use crate::scope::Scope;
 use crate::stores::{is_missed, stored_word};
 use crate::traced::{Term, Value, joined, scaled, sum};
 use crate::walking::{FIRST_WORD, Words};
 use scale_base::{LoadOp, NoMemory};
-use stack_tables::{FixedPart, fixed_load};
+use stack_tables::{FixedPart, fixed_load, load_width};
 use std::alloc::Global;
 use walk_checks::{MOST_STARTS, Sought};
 use wrapped_intervals::Arc;
@@ -106,16 +104,6 @@ struct Search<'a> {
     op: LoadOp,
     step: u32,
     left: u32,
-}
-
-fn load_width(op: LoadOp) -> u32
-    ensures { 0 < result }
-{
-    match op {
-        LoadOp::Lb | LoadOp::Lbu => 1,
-        LoadOp::Lh | LoadOp::Lhu => 2,
-        LoadOp::Lw => 4,
-    }
 }
 
 impl<'a> Search<'a> {

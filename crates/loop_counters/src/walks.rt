@@ -19,6 +19,13 @@ const MOST_NODES: usize = 2048;
 
 const MOST_AIMS: usize = 8;
 
+/// Which walks are looked at: those up to a 0 in constant bytes, or these and those through areas.
+#[derive(Clone, Copy)]
+pub enum WalkKinds {
+    ToZero,
+    All,
+}
+
 // How a walk moves its pointer: down or up, by so much at least, and so much more at most.
 #[derive(Clone, Copy)]
 struct Move {
@@ -259,14 +266,20 @@ fn better(a: Option<Found>, b: Option<Found>) -> Option<Found> {
 }
 
 // The walk of the least bound.
-fn best_walk(alloc: Global, look: &Look<'_>) -> Result<Option<Found>, NoMemory> {
+fn best_walk(
+    alloc: Global,
+    look: &Look<'_>,
+    kinds: WalkKinds,
+) -> Result<Option<Found>, NoMemory> {
     let Some(all) = walk_of(alloc, look, &all_begun(look.words))? else {
         return Ok(None);
     };
     let aims = aims_of(alloc, look, &all)?;
     let mut best = None;
     for aim in &aims {
-        best = better(best, walk_by(alloc, look, *aim)?);
+        if matches!(kinds, WalkKinds::All) {
+            best = better(best, walk_by(alloc, look, *aim)?);
+        }
         best = better(best, searched(alloc, look, &all, *aim)?);
     }
     Ok(best)
@@ -456,7 +469,11 @@ fn table_of(alloc: Global, look: &Look<'_>, found: Found) -> Result<WalkTable, N
 }
 
 /// A table of a walk of a loop, of the least bound that is found; none where no pointer is found that each turn uses and moves on.
-pub fn find_walk(alloc: Global, scope: &Scope<'_>) -> Result<Option<WalkTable>, NoMemory> {
+pub fn find_walk(
+    alloc: Global,
+    scope: &Scope<'_>,
+    kinds: WalkKinds,
+) -> Result<Option<WalkTable>, NoMemory> {
     if scope.nodes.len() > MOST_NODES {
         return Ok(None);
     }
@@ -469,7 +486,7 @@ pub fn find_walk(alloc: Global, scope: &Scope<'_>) -> Result<Option<WalkTable>, 
         aim: None,
         sought: None,
     };
-    match best_walk(alloc, &look)? {
+    match best_walk(alloc, &look, kinds)? {
         Some(found) => Ok(Some(table_of(alloc, &look, found)?)),
         None => Ok(None),
     }

@@ -1,40 +1,12 @@
--- What is so at each address of an interval, and that an interval ends where nothing that is sought is.
+-- An interval ends where nothing that is sought is.
 use Rattle.std.proofs.Common.{◌≡◌, ◌<◌, ◌≤◌, ◌+◌, ◌-◌, ◌*◌, ◌/◌, ◌%◌, ◌^◌, ◌⊎◌, inl, inr, ⊎_elim, ℕ, zero, suc, List, refl, sym, ap, ◌∙◌, subst, arith, true, Option, Some, None}
 use Rattle.std.specs.Prelude.{is_some, IfSome}
 use Rattle.std.proofs.lemmas.Bool.{cases_lt}
-use Rattle.std.proofs.lemmas.Nat.{mul-le}
-use Rattle.std.proofs.Math.Nat.{div-add-mod, le-div_iff_mul-le, mul-add, mul_comm, mul-le-mul_left}
+use Rattle.std.proofs.Math.Nat.{div-add-mod, mul-add, mul-le-mul_left}
 use Rattle.bound_laws.specs.Values.{Arc, IsIn, IsHeld, ahead}
 use Rattle.stack_tables.specs.declared.tables.FixedPart.{FixedPart}
 use Rattle.walk_checks.specs.declared.tables.Sought.{Sought}
 use Rattle.walk_checks.specs.Walked.{IsEnding, IsIdle}
-
--- so many strides are at most as many as fit
-pub strides_within : (n stride more : ℕ) → 0 < stride → stride * n ≤ more → n ≤ more / stride
-strides_within n stride more some within = (le-div_iff_mul-le some).1 (subst (λ (x : ℕ). x ≤ more) (mul_comm stride n) within)
-
--- they are far below all that is counted
-pub strides_few : (n stride : ℕ) → stride < 2 ^ 32 → n ≤ 2 ^ 17 → stride * n ≤ 2 ^ 32 * 2 ^ 17
-strides_few n stride short few = mul-le stride n (2 ^ 32) (2 ^ 17) (omega arith) few
-
--- a number of an interval by how far it is behind the first one
-number_at : (low at d : ℕ) → at < 2 ^ 32 → low < 2 ^ 32 → ahead low at ≡ d → (low + d) % 2 ^ 32 ≡ at
-number_at low at d word start behind = omega arith
-
--- What is so at so many numbers of an interval, a stride from one to the next, is so at all of them.
-pub each_of : (P : ℕ → Type 0) (place : Arc) (steps : ℕ) → ((n : ℕ) → 0 < place.stride → place.stride * n ≤ place.more → n ≤ steps) → ((n : ℕ) → n < steps + 1 → P ((place.low + place.stride * n) % 2 ^ 32)) →
-    (at : ℕ) → IsIn place at → P at
-each_of P place steps last each at inside = subst P (number_at place.low at (place.stride * number.0) inside.word inside.start (inside.step.1 ∙ number.2)) (each number.0 number.1)
-  where
-    within : place.stride * inside.step.0 ≤ place.more
-    within = let e = inside.step.1 in let near = inside.near in omega (arith, e, near)
-
-    number : (n : ℕ) × (n < steps + 1) × (place.stride * inside.step.0 ≡ place.stride * n)
-    number = by place.stride refl
-      where
-        by : (stride : ℕ) → place.stride ≡ stride → (n : ℕ) × (n < steps + 1) × (place.stride * inside.step.0 ≡ place.stride * n)
-        by zero none = (0, omega arith, subst (λ (s : ℕ). s * inside.step.0 ≡ s * 0) (sym none) (let z : 0 * inside.step.0 ≡ 0 * 0 = omega arith in z))
-        by (suc s) some = (inside.step.0, (let few = last inside.step.0 (subst (λ (y : ℕ). 0 < y) (sym some) (omega arith)) within in omega (arith, few)), refl)
 
 -- ---- where an interval ends
 

@@ -1,9 +1,11 @@
 -- Scaffold: a table of a walk as what `walk_areas` calls a certificate: by address what stands beside it in the list of nodes, by register what stands in
 -- the row, and by number of a word what the row of words says first of it.
-use Rattle.std.specs.Prelude.{◌≡◌, ◌≢◌, ℕ, ◌+◌, ◌%◌, ◌^◌, ◌<◌, ◌≤◌, ◌⊎◌, ◌==◌, Option, Bool, true, false, List, [], length, slice_get, map, option_and_then, option_map, Some, None, Vec}
+use Rattle.std.specs.Prelude.{◌≡◌, ◌≢◌, ℕ, ℤ, ◌+◌, ◌%◌, ◌^◌, ◌<◌, ◌≤◌, ◌⊎◌, ◌==◌, Option, Bool, true, false, List, [], length, slice_get, map, option_and_then, option_map, Some, None, Vec}
 use Rattle.std.specs.List.{All, find}
 use Rattle.std.specs.declared.alloc.Global.{Global}
+use Rattle.scale_base.specs.declared.instruction.LoadOp.{LoadOp}
 use Rattle.scale_base.specs.declared.instruction.Instr.{Instr}
+use Rattle.scale_base.specs.declared.instruction.Instr.TheVariants.{Load}
 use Rattle.cost_theory.specs.Graph.{Graph}
 use Rattle.code_text.specs.Text.{Text, instr_at}
 use Rattle.loop_file.specs.Kept.{in_extent}
@@ -226,6 +228,10 @@ IsEntrySo c = (k : ℕ) × (slice_get c.claim.now.graph.now.code.nodes k ≡ Som
     ((cert c).body (address c.claim.now k) ≡ true → k ≡ c.header) × (k ≡ c.header → (cert c).start ≡ None)
 
 -- ---- the ground
+
+-- an instruction is a load of a kind to a register
+abbrev pub IsLoadTo : Instr → LoadOp → (r : ℕ) → Type 0
+IsLoadTo i op r = (rs1 : ℕ) × (offset : ℤ) × (i ≡ Load op r rs1 offset)
 
 -- the address of an access by what a register holds is in the table's place
 abbrev pub IsPlaced : WalkCase → (k register more : ℕ) → Type 0

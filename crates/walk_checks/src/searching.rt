@@ -3,31 +3,17 @@
 
 ghost use Rattle.std.specs.Prelude.{◌≡◌, ◌≤◌, ◌<◌, ◌+◌, ◌*◌, ◌%◌, ◌^◌, ℕ, IfSome, is_some, length, true};
 ghost use Rattle.std.specs.List.{All};
-ghost use Rattle.scale_base.specs.Arith as ops;
 ghost use Rattle.bound_laws.specs.Values as values;
 ghost use Rattle.bound_laws.specs.Values.{IsHeld, IsIn};
 ghost use Rattle.wrapped_intervals.specs.Small.{IsKept, IsKeptOr};
 ghost use Rattle.walk_checks.specs.Walked.{IsBegunAt, IsEnding, IsIdle, IsInNumbered, IsSearched};
 
 use crate::tables::{MOST_STARTS, Sought, WalkTable};
-use scale_base::LoadOp;
-use stack_tables::{FixedPart, fixed_load};
+use stack_tables::{FixedPart, fixed_load, load_width, number_at, stride_count};
 use wrapped_intervals::{Arc, ahead, holds, is_kept};
 
 // How many words there are.
 const WORDS: u64 = 4_294_967_296;
-
-// How many bytes a load loads.
-fn load_width(op: LoadOp) -> u32
-    ensures width { result ≡ ops.load_width op }
-    ensures some { 0 < result }
-{
-    match op {
-        LoadOp::Lb | LoadOp::Lbu => 1,
-        LoadOp::Lh | LoadOp::Lhu => 2,
-        LoadOp::Lw => 4,
-    }
-}
 
 // Whether a number is not in an interval.
 fn is_outside(i: Arc, number: u32) -> bool
@@ -84,26 +70,6 @@ fn next_of(ground: &[Arc], k: usize, at: u32) -> usize
     if is_in(ground, next, at) { next } else { k }
 }
 
-// The number of an interval that is so many of its strides behind the first.
-fn number_of(place: Arc, n: u64) -> u32
-    requires place { IsKept place }
-    requires few { n ≤ 2 ^ 17 }
-    ensures { result ≡ (place.low + place.stride * n) % 2 ^ 32 }
-{
-    ((place.low() + place.stride() * n) % WORDS) as u32
-}
-
-// How many of its strides the last number of an interval is behind the first, at most.
-fn steps_of(place: Arc) -> u64
-    ensures { (n : ℕ) → 0 < place.stride → place.stride * n ≤ place.more → n ≤ result }
-{
-    if place.stride() == 0 {
-        0
-    } else {
-        place.more() / place.stride()
-    }
-}
-
 // Whether each address of an interval is so.
 fn are_begun(search: &Search<'_>, first: Arc) -> bool
     requires wanted { IsKept search.now.sought.wanted }
@@ -111,13 +77,13 @@ fn are_begun(search: &Search<'_>, first: Arc) -> bool
     requires first { IsKept first }
     ensures { result ≡ true → (at : ℕ) → IsIn first at → IsBegunAt search.now.parts.now search.now.sought search.now.ground.now at }
 {
-    let steps = steps_of(first);
-    if steps >= MOST_STARTS {
+    let strides = stride_count(first);
+    if strides >= MOST_STARTS {
         return false;
     }
     let mut k = 0;
-    for n in 0..steps + 1 {
-        let at = number_of(first, n);
+    for n in 0..strides + 1 {
+        let at = number_at(first, n);
         k = next_of(search.ground, k, at);
         if !is_begun_at(search, k, at) {
             return false;

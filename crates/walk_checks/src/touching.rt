@@ -8,13 +8,13 @@ ghost use Rattle.stack_laws.specs.Areas.{IsAccess};
 ghost use Rattle.stack_tables.specs.Tables.{values_in};
 ghost use Rattle.wrapped_intervals.specs.Small.{IsFoundOr};
 ghost use Rattle.walk_areas.specs.Walking as walking;
-ghost use Rattle.walk_checks.specs.Walked.{at_of, cert, certificate_of, found_view, IsPlaced, IsStep, IsWalkCase};
+ghost use Rattle.walk_checks.specs.Walked.{at_of, cert, certificate_of, found_view, IsLoadTo, IsPlaced, IsStep, IsWalkCase};
 
 use crate::rows::{holder_at, is_touched, operand};
 use crate::starts::{is_register, passed_on};
 use crate::tables::{Sought, Step, WalkCase, WalkTable};
 use crate::traces::{Found, is_wider, moved};
-use scale_base::Instr;
+use scale_base::{Instr, LoadOp};
 use stack_tables::held_at;
 use wrapped_intervals::{Arc, covers, is_kept, keeps, sum_with};
 
@@ -97,23 +97,38 @@ fn is_aimed(case: &WalkCase<'_>, i: Instr, k: usize) -> bool
     }
 }
 
-// Whether it is a load of the kind of what is sought, to a register.
+// Whether an instruction is a load of a kind to a register.
+fn is_load_to(i: Instr, op: LoadOp, r: u8) -> bool
+    ensures { result ≡ true → IsLoadTo i op r }
+{
+    match i {
+        Instr::Load {
+            op: kind,
+            rd,
+            rs1: _,
+            offset: _,
+        } => { if rd == r { kind == op } else { false } }
+        _ => false,
+    }
+}
+
+// Whether it is one of the kind of what is sought.
 fn is_searching(case: &WalkCase<'_>, i: Instr, k: usize, r: u8) -> bool
     requires case { IsWalkCase case.now }
     requires from { k < length case.now.claim.now.graph.now.code.nodes }
     ensures { result ≡ true → walking.IsSearching (values_in case.now.claim.now) (cert case.now) (at_of case.now k) i r }
 {
-    match (case.table.sought, i) {
-        (
-            Some(sought),
-            Instr::Load {
-                op,
-                rd,
-                rs1: _,
-                offset: _,
-            },
-        ) => op == sought.op && rd == r && is_register(r) && is_aimed(case, i, k),
-        _ => false,
+    match case.table.sought {
+        Some(sought) => {
+            if !is_register(r) {
+                return false;
+            }
+            if !is_load_to(i, sought.op, r) {
+                return false;
+            }
+            is_aimed(case, i, k)
+        }
+        None => false,
     }
 }
 
