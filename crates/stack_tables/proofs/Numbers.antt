@@ -7,6 +7,9 @@ use Rattle.bound_laws.specs.Values.{Arc, IsIn, ahead}
 strides_within : (n stride more : ℕ) → 0 < stride → stride * n ≤ more → n ≤ more / stride
 strides_within n stride more some within = (le-div_iff_mul-le some).1 (subst (λ (x : ℕ). x ≤ more) (mul_comm stride n) within)
 
+strides_counted : (n stride more count : ℕ) → 0 < stride → stride * n ≤ more → count ≡ more / stride → n ≤ count
+strides_counted n stride more count some within same = subst (λ (x : ℕ). n ≤ x) (sym same) (strides_within n stride more some within)
+
 -- a number of an interval by how far it is behind the first one
 number_behind : (low at d : ℕ) → at < 2 ^ 32 → low < 2 ^ 32 → ahead low at ≡ d → (low + d) % 2 ^ 32 ≡ at
 number_behind low at d word start behind = omega arith
@@ -28,6 +31,5 @@ each_number P place count last each at inside = subst P (number_behind place.low
         by zero none = (0, omega arith, subst (λ (s : ℕ). s * inside.step.0 ≡ s * 0) (sym none) (none_of inside.step.0))
         by (suc s) some =
             let strides : 0 < place.stride = subst (λ (y : ℕ). 0 < y) (sym some) (omega arith) in
-            let few : inside.step.0 ≤ place.more / place.stride = strides_within inside.step.0 place.stride place.more strides within in
-            let same : count ≡ place.more / place.stride = last strides in
-            (inside.step.0, omega (arith, few, same), refl)
+            let few : inside.step.0 ≤ count = strides_counted inside.step.0 place.stride place.more count strides within (last strides) in
+            (inside.step.0, omega (arith, few), refl)

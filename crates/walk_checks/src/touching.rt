@@ -97,37 +97,47 @@ fn is_aimed(case: &WalkCase<'_>, i: Instr, k: usize) -> bool
     }
 }
 
+// Whether two kinds of loads are the same.
+fn is_same_kind(op: LoadOp, other: LoadOp) -> bool
+    ensures { result ≡ true → op ≡ other }
+{
+    op == other
+}
+
 // Whether an instruction is a load of a kind to a register.
-fn is_load_to(i: Instr, op: LoadOp, r: u8) -> bool
-    ensures { result ≡ true → IsLoadTo i op r }
+fn is_load_to(i: Instr, kind: LoadOp, r: u8) -> bool
+    ensures { result ≡ true → IsLoadTo i kind r }
 {
     match i {
         Instr::Load {
-            op: kind,
+            op,
             rd,
             rs1: _,
             offset: _,
-        } => { if rd == r { kind == op } else { false } }
+        } => { if rd == r { is_same_kind(op, kind) } else { false } }
         _ => false,
     }
 }
 
-// Whether it is one of the kind of what is sought.
+// Whether it is one of the kind of what is sought, at the pointer.
+fn is_seeking(case: &WalkCase<'_>, i: Instr, k: usize, r: u8, sought: Sought) -> bool
+    requires case { IsWalkCase case.now }
+    requires from { k < length case.now.claim.now.graph.now.code.nodes }
+    ensures register { result ≡ true → IsRegister r }
+    ensures loads { result ≡ true → IsLoadTo i sought.op r }
+    ensures aimed { result ≡ true → walking.IsAimed (values_in case.now.claim.now) (cert case.now) (at_of case.now k) i }
+{
+    is_register(r) && is_load_to(i, sought.op, r) && is_aimed(case, i, k)
+}
+
+// The same of what the table says is sought.
 fn is_searching(case: &WalkCase<'_>, i: Instr, k: usize, r: u8) -> bool
     requires case { IsWalkCase case.now }
     requires from { k < length case.now.claim.now.graph.now.code.nodes }
     ensures { result ≡ true → walking.IsSearching (values_in case.now.claim.now) (cert case.now) (at_of case.now k) i r }
 {
     match case.table.sought {
-        Some(sought) => {
-            if !is_register(r) {
-                return false;
-            }
-            if !is_load_to(i, sought.op, r) {
-                return false;
-            }
-            is_aimed(case, i, k)
-        }
+        Some(sought) => is_seeking(case, i, k, r, sought),
         None => false,
     }
 }
@@ -144,14 +154,26 @@ fn is_holder_kept(case: &WalkCase<'_>, i: Instr, k: usize, r: u8) -> bool
     }
 }
 
-/// Whether a register has behind it what was loaded, where one is said to.
+// Whether a register has behind it what was loaded.
+fn is_held_over(case: &WalkCase<'_>, i: Instr, k: usize, r: u8) -> bool
+    requires case { IsWalkCase case.now }
+    requires from { k < length case.now.claim.now.graph.now.code.nodes }
+    ensures { result ≡ true → walking.IsHolderOver (values_in case.now.claim.now) (cert case.now) (at_of case.now k) i (Some r) }
+{
+    if is_holder_kept(case, i, k, r) {
+        return true;
+    }
+    is_searching(case, i, k, r)
+}
+
+/// The same, where a register is said to.
 pub fn is_holder_over(case: &WalkCase<'_>, i: Instr, k: usize, b: Option<u8>) -> bool
     requires case { IsWalkCase case.now }
     requires from { k < length case.now.claim.now.graph.now.code.nodes }
     ensures { result ≡ true → walking.IsHolderOver (values_in case.now.claim.now) (cert case.now) (at_of case.now k) i b }
 {
     match b {
-        Some(r) => is_holder_kept(case, i, k, r) || is_searching(case, i, k, r),
+        Some(r) => is_held_over(case, i, k, r),
         None => true,
     }
 }
