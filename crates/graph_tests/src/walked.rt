@@ -8,13 +8,13 @@ use code_graph::build_graph;
 use elf_view::ImageView;
 use flow_graph::CodeGraph;
 use loop_file::{LoopNotes, read_loops};
-use scale_base::NoMemory;
+use scale_base::{LoadOp, NoMemory};
 use stack_tables::{StackClaim, is_stack_sized};
 use std::alloc::Global;
 use std::test::Fail;
 use value_analysis::{Tables, analyse};
 use value_checks::is_sized;
-use walk_checks::{Trace, WalkPlace, WalkTable, WordTrace, is_walk_shown};
+use walk_checks::{Sought, Trace, WalkPlace, WalkTable, WordTrace, is_walk_shown};
 use wrapped_intervals::Arc;
 
 /// A list of numbers that ends with 0.
@@ -28,7 +28,25 @@ const WALK: [u32; 7] = [
     BREAKPOINT,
 ];
 
-/// Its loop, which turns no more often than there are words in most of memory.
+/// The same of a list behind the code, where no store changes it.
+const SEARCH: [u32; 11] = [
+    0x0001_0537, // lui a0,0x10
+    0x01C5_2583, // 10004: lw a1,28(a0)
+    0x0045_0513, // addi a0,a0,4
+    0xFE05_9CE3, // bne a1,zero,10004
+    EXIT,
+    ECALL,
+    BREAKPOINT,
+    7, // 1001c
+    7,
+    7,
+    0,
+];
+
+/// The first of its numbers.
+const LIST: u64 = 0x1_001C;
+
+/// The loop of both, which turns no more often than there are words in most of memory.
 const LOOP: &str =
     "version = 2\n[[loop]]\nheader = 0x00010004\nranges = [[0x00010004, 0x00010010]]\nbound = 1000000000\n";
 
@@ -51,12 +69,37 @@ enum Other {
     Placed,
     Misplaced,
     PlacedGroundless,
+    Sought,
+    SoughtShort,
+    SoughtLong,
+    SoughtNarrower,
+    SoughtLater,
+    SoughtUnstarted,
+    SoughtUnheld,
+    SoughtHalves,
+    SoughtTouched,
 }
 
 impl Other {
     /// Whether the ground is left out.
     fn is_groundless(&self) -> bool {
         matches!(self, Other::Groundless | Other::PlacedGroundless)
+    }
+
+    /// Whether a 0 is looked for.
+    fn is_sought(&self) -> bool {
+        matches!(
+            self,
+            Other::Sought
+                | Other::SoughtShort
+                | Other::SoughtLong
+                | Other::SoughtNarrower
+                | Other::SoughtLater
+                | Other::SoughtUnstarted
+                | Other::SoughtUnheld
+                | Other::SoughtHalves
+                | Other::SoughtTouched
+        )
     }
 }
 
@@ -94,6 +137,81 @@ fn place_of(graph: &CodeGraph, tables: &Tables, other: Other) -> Option<Arc> {
     }
 }
 
+/// What is known at the nodes of a walk, one by one.
+fn push_rows(
+    alloc: Global,
+    table: &mut WalkTable,
+    graph: &CodeGraph,
+    other: Other,
+) -> Result<(), NoMemory> {
+    for k in 0..graph.node_count() {
+        let at = graph.node(k);
+        let inside = HEADER <= at && at <= LAST;
+        let behind = inside && at != HEADER;
+        let sought = other.is_sought() && !matches!(other, Other::SoughtTouched);
+        let touched = behind && !sought && !matches!(other, Other::Untouched);
+        let holds = behind && other.is_sought() && !matches!(other, Other::SoughtUnheld);
+        let still = matches!(other, Other::Still) && at == LAST;
+        table.body.push(inside)?;
+        table
+            .rows
+            .push(row_of(alloc, if still { HEADER } else { at })?)?;
+        table.words.push(Vec::new(alloc))?;
+        table.touched.push(touched)?;
+        table.holders.push(holds.then_some(11))?;
+        table.quiet.push(false)?;
+    }
+    Ok(())
+}
+
+/// The table of a walk through the list behind the code, or another one.
+fn sought_of(alloc: Global, graph: &CodeGraph, other: Other) -> Result<WalkTable, NoMemory> {
+    let more = match other {
+        Other::SoughtShort => 4,
+        Other::SoughtLong => 12,
+        _ => 8,
+    };
+    let mut table = WalkTable {
+        first: WalkPlace::Register(10),
+        first_factor: 1,
+        second: WalkPlace::Register(10),
+        second_factor: 0,
+        at: 28,
+        down: false,
+        least: 4,
+        spread: 0,
+        width: if matches!(other, Other::SoughtNarrower) {
+            11
+        } else {
+            16
+        },
+        place: None,
+        start: match other {
+            Other::SoughtUnstarted => None,
+            Other::SoughtLater => Some(Arc::of(LIST + 4, 0)),
+            _ => Some(Arc::of(LIST, 0)),
+        },
+        sought: Some(Sought {
+            op: if matches!(other, Other::SoughtHalves) {
+                LoadOp::Lhu
+            } else {
+                LoadOp::Lw
+            },
+            wanted: Arc::of(1, 0xFFFF_FFFE),
+        }),
+        ground: Vec::new(alloc),
+        body: Vec::new(alloc),
+        rows: Vec::new(alloc),
+        words: Vec::new(alloc),
+        touched: Vec::new(alloc),
+        holders: Vec::new(alloc),
+        quiet: Vec::new(alloc),
+    };
+    table.ground.push(Arc::strided(LIST, more, 4))?;
+    push_rows(alloc, &mut table, graph, other)?;
+    Ok(table)
+}
+
 /// The table of the walk, or another one.
 fn table_of(
     alloc: Global,
@@ -124,11 +242,14 @@ fn table_of(
             0xE000_0000
         },
         place: place_of(graph, tables, other),
+        start: None,
+        sought: None,
         ground: Vec::new(alloc),
         body: Vec::new(alloc),
         rows: Vec::new(alloc),
         words: Vec::new(alloc),
         touched: Vec::new(alloc),
+        holders: Vec::new(alloc),
         quiet: Vec::new(alloc),
     };
     for area in &tables.stack.areas {
@@ -136,19 +257,7 @@ fn table_of(
             table.ground.push(*area)?;
         }
     }
-    for k in 0..graph.node_count() {
-        let at = graph.node(k);
-        let inside = HEADER <= at && at <= LAST;
-        let touched = inside && at != HEADER && !matches!(other, Other::Untouched);
-        let still = matches!(other, Other::Still) && at == LAST;
-        table.body.push(inside)?;
-        table
-            .rows
-            .push(row_of(alloc, if still { HEADER } else { at })?)?;
-        table.words.push(Vec::new(alloc))?;
-        table.touched.push(touched)?;
-        table.quiet.push(false)?;
-    }
+    push_rows(alloc, &mut table, graph, other)?;
     Ok(table)
 }
 
@@ -173,7 +282,11 @@ fn is_taken_of(
         table: &tables.values,
         stack: &tables.stack,
     };
-    let table = table_of(alloc, graph, &tables, other)?;
+    let table = if other.is_sought() {
+        sought_of(alloc, graph, other)?
+    } else {
+        table_of(alloc, graph, &tables, other)?
+    };
     if notes.count() == 0 {
         return Err("there is a loop".into());
     }
@@ -181,7 +294,11 @@ fn is_taken_of(
 }
 
 fn is_taken(alloc: Global, other: Other) -> Result<bool, Fail> {
-    let file = image_of(alloc, &WALK)?;
+    let file = if other.is_sought() {
+        image_of(alloc, &SEARCH)?
+    } else {
+        image_of(alloc, &WALK)?
+    };
     let view = view_of(alloc, &file)?;
     let Ok(notes) = read_loops(alloc, LOOP.as_bytes(), &view) else {
         return Err("the loop file is read".into());
@@ -193,7 +310,7 @@ fn is_taken(alloc: Global, other: Other) -> Result<bool, Fail> {
 }
 
 /// Tables, and whether they are taken.
-static TABLES: [(&str, Other, bool); 11] = [
+static TABLES: [(&str, Other, bool); 20] = [
     ("as it is", Other::None, true),
     ("no access", Other::Untouched, false),
     ("a pointer that stays", Other::Still, false),
@@ -205,6 +322,19 @@ static TABLES: [(&str, Other, bool); 11] = [
     ("the interval of the address", Other::Placed, true),
     ("another interval", Other::Misplaced, false),
     ("no ground in the interval", Other::PlacedGroundless, false),
+    ("up to a 0", Other::Sought, true),
+    ("up to a number before it", Other::SoughtShort, false),
+    ("up to where nothing is known", Other::SoughtLong, false),
+    ("too small a width up to a 0", Other::SoughtNarrower, false),
+    ("from a later number on", Other::SoughtLater, false),
+    ("from anywhere on", Other::SoughtUnstarted, false),
+    (
+        "no register with what is loaded",
+        Other::SoughtUnheld,
+        false,
+    ),
+    ("loads of another kind", Other::SoughtHalves, false),
+    ("what is loaded taken as found", Other::SoughtTouched, false),
 ];
 
 #[test]

@@ -10,7 +10,7 @@ use crate::scope::Scope;
 use crate::turning::find_turns;
 use crate::turns::{Turns, turns_of};
 use crate::unturned::{UNTURNED, is_turned, no_turns};
-use crate::walks::find_walk;
+use crate::walks::{WalkKinds, find_walk};
 use flow_graph::CodeGraph;
 use loop_forest::LoopTree;
 use scale_base::NoMemory;
@@ -25,7 +25,10 @@ use wrapped_intervals::Measure;
 /// Bounds from here on say nothing.
 const NO_BOUND: u32 = 0x8000_0000;
 
-/// Where a certificate has such a bound, a walk through memory is looked at, too.
+/// Where a certificate has such a bound, a walk up to a 0 in constant bytes is looked at, too.
+const NEAR: u32 = 16;
+
+/// And from such a bound on, each walk through memory.
 const FAR: u32 = 1024;
 
 /// A walk of such a bound is worth no more than a counter, but one of so many turns, which no file may have.
@@ -320,9 +323,13 @@ fn walked(alloc: Global, table: WalkTable) -> StackCertificate {
     }
 }
 
-// A certificate by a walk, where one is found.
-fn by_walk(alloc: Global, scope: &Scope<'_>) -> Result<Option<StackCertificate>, NoMemory> {
-    match find_walk(alloc, scope)? {
+// A certificate by a walk of one of the kinds that are looked at, where one is found.
+fn by_walk(
+    alloc: Global,
+    scope: &Scope<'_>,
+    kinds: WalkKinds,
+) -> Result<Option<StackCertificate>, NoMemory> {
+    match find_walk(alloc, scope, kinds)? {
         Some(table) => Ok(Some(walked(alloc, table))),
         None => Ok(None),
     }
@@ -336,11 +343,20 @@ fn turns_shown(certificate: &StackCertificate) -> u32 {
         .unwrap_or(u32::MAX)
 }
 
-// Whether a certificate is found whose bound is less than those from which on walks are looked at.
-fn is_near(found: &Option<StackCertificate>) -> bool {
+// Which walks are looked at, by the bound of the certificate that is found.
+fn kinds_beside(found: &Option<StackCertificate>) -> Option<WalkKinds> {
     match found {
-        Some(certificate) => turns_shown(certificate) < FAR,
-        None => false,
+        Some(certificate) => {
+            let bound = turns_shown(certificate);
+            if bound < NEAR {
+                None
+            } else if bound < FAR {
+                Some(WalkKinds::ToZero)
+            } else {
+                Some(WalkKinds::All)
+            }
+        }
+        None => Some(WalkKinds::All),
     }
 }
 
@@ -373,7 +389,7 @@ pub fn loops_within(graph: &CodeGraph, work: u64) -> usize {
     (work / size as u64) as usize
 }
 
-/// A certificate of loop `k` of a program, of the least bound that is found, by a counter, or by a walk where that has none or a far one.
+/// A certificate of loop `k` of a program, of the least bound that is found, by a counter, or by a walk where that has none or one that isn't near.
 pub fn find_certificate(
     alloc: Global,
     claim: &StackClaim<'_>,
@@ -392,8 +408,11 @@ pub fn find_certificate(
         return Ok(Some(unturned(alloc, &scope)?));
     }
     let found = counted(alloc, &scope, most)?;
-    if is_near(&found) || k >= loops_within(claim.graph, WALK_WORK) {
+    let Some(kinds) = kinds_beside(&found) else {
+        return Ok(found);
+    };
+    if k >= loops_within(claim.graph, WALK_WORK) {
         return Ok(found);
     }
-    Ok(nearer(found, by_walk(alloc, &scope)?))
+    Ok(nearer(found, by_walk(alloc, &scope, kinds)?))
 }

@@ -12,6 +12,7 @@ mod limits;
 mod quiet;
 mod relating;
 mod scope;
+mod searches;
 mod stores;
 mod traced;
 mod turning;

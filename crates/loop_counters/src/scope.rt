@@ -7,7 +7,7 @@ use code_text::instr_at;
 use elf_image::ImageView;
 use flow_graph::CodeGraph;
 use scale_base::{Instr, NoMemory};
-use stack_tables::{Name, StackClaim, Word};
+use stack_tables::{FixedPart, Name, StackClaim, Word};
 use std::alloc::Global;
 use value_analysis::Tables;
 use value_checks::{Line, are_arcs_kept};
@@ -140,6 +140,15 @@ impl<'a> Scope<'a> {
         entry == self.header || !self.is_in_body(entry)
     }
 
+    /// Whether the run, or the function of a node, begins there.
+    pub fn is_entry(&self, k: usize) -> bool {
+        if k >= self.graph.node_count() {
+            return true;
+        }
+        self.graph.entry_node(self.graph.owner(k)) == k
+            || self.address(k) == Some(self.view.entry())
+    }
+
     /// The interval of a register before a node's instruction.
     pub fn arc(&self, k: usize, r: u8) -> Option<Arc> {
         if r == 0 {
@@ -245,6 +254,11 @@ impl<'a> Scope<'a> {
     /// Where the words of functions that wait may be.
     pub fn place(&self) -> Option<Arc> {
         self.tables.stack.place
+    }
+
+    /// The bytes that no store changes.
+    pub fn fixed(&self) -> &'a [FixedPart] {
+        &self.tables.stack.fixed
     }
 
     /// Where memory may be accessed.

@@ -1,5 +1,5 @@
 //! What is known, at each node of a loop, of registers and of words of the stack, by what stood in places when the header was last come to; and
-//! whether memory was accessed since where a pointer points.
+//! whether memory was accessed since where a pointer points, and gave what is looked for.
 
 ghost use Rattle.std.specs.Prelude.{◌<◌};
 
@@ -10,6 +10,7 @@ use crate::traced::{Value, joined, scaled, sum};
 use crate::turning::Numbers;
 use scale_base::{ImmOp, Instr, NoMemory, RegOp};
 use std::alloc::Global;
+use walk_checks::Sought;
 use wrapped_intervals::{Arc, keeps};
 
 /// How many words of the stack are looked at.
@@ -17,6 +18,9 @@ pub const MOST_WORDS: usize = 16;
 
 /// The number of the place of the first of them.
 pub const FIRST_WORD: u8 = 32;
+
+/// How many words there are.
+const WORDS: u64 = 4_294_967_296;
 
 /// How often the nodes of a loop are looked at.
 const PASSES: usize = 6;
@@ -58,12 +62,14 @@ impl Words {
     }
 }
 
-/// What is known before a node: of registers, of the words that are looked at, and whether memory was accessed.
+/// What is known before a node: of registers, of the words that are looked at, whether memory was accessed and gave what is looked for, and
+/// the register with what it gave.
 #[derive(Clone, Copy)]
 pub struct Standing {
     pub row: [Option<Value>; 32],
     pub words: [Option<Value>; MOST_WORDS],
     pub touched: bool,
+    pub holder: Option<u8>,
 }
 
 impl Standing {
@@ -73,6 +79,7 @@ impl Standing {
             row: [None; 32],
             words: [None; MOST_WORDS],
             touched: false,
+            holder: None,
         }
     }
 
@@ -229,7 +236,21 @@ fn behind_step(scope: &Scope<'_>, words: &Words, known: &Standing, k: usize) -> 
         store(scope, words, &mut then, k);
     }
     then.set(target_of(instr), left);
+    then.holder = kept_holder(known.holder, instr);
     then
+}
+
+// The register with what was loaded, where an instruction leaves it.
+fn kept_holder(holder: Option<u8>, instr: Instr) -> Option<u8> {
+    match holder {
+        Some(r) if keeps(r, instr) => Some(r),
+        _ => None,
+    }
+}
+
+// The register with what was loaded, unless it is this one.
+fn kept_unless(holder: Option<u8>, r: u8) -> Option<u8> {
+    if holder == Some(r) { None } else { holder }
 }
 
 // Behind a call that comes back.
@@ -244,6 +265,7 @@ fn behind_call(
     for r in 1..32 {
         if !scope.restores(callee.function, r) || !keeps(r, scope.instr(k)) {
             then.set(r, None);
+            then.holder = kept_unless(then.holder, r);
         }
     }
     for j in 0..words.numbers.len() {
@@ -254,13 +276,15 @@ fn behind_call(
     then
 }
 
-/// A loop that is looked at: its words, its nodes' numbers in it, and where memory has to be accessed, if that is told.
+/// A loop that is looked at: its words, its nodes' numbers in it, and where memory has to be accessed and what is looked for there, if that is
+/// told.
 #[derive(Clone, Copy)]
 pub struct Look<'a> {
     pub scope: &'a Scope<'a>,
     pub words: &'a Words,
     pub numbers: &'a Numbers,
     pub aim: Option<Value>,
+    pub sought: Option<Sought>,
 }
 
 impl<'a> Look<'a> {
@@ -302,11 +326,45 @@ impl<'a> Look<'a> {
             Some(callee) => behind_call(self.scope, self.words, known, k, callee),
             None => {
                 let mut then = behind_step(self.scope, self.words, known, k);
-                then.touched = known.touched || self.is_aimed(known, k);
+                if self.is_aimed(known, k) {
+                    self.note_access(&mut then, k);
+                }
                 then
             }
         }
     }
+
+    // Notes what a node accesses there.
+    fn note_access(&self, then: &mut Standing, k: usize) {
+        match (self.sought, self.scope.instr(k)) {
+            (None, _) => then.touched = true,
+            (Some(sought), Instr::Load { op, rd, .. }) => {
+                if op == sought.op && 0 < rd && rd < 32 {
+                    then.holder = Some(rd);
+                }
+            }
+            _ => {}
+        }
+    }
+
+    // Whether what was loaded shows to be what is looked for, on the way from a node to another.
+    fn is_found(&self, known: &Standing, k: usize, to: usize) -> bool {
+        match (self.sought, known.holder) {
+            (Some(sought), Some(r)) if keeps(r, self.scope.instr(k)) => {
+                is_wanted(sought, self.scope.arc_on(k, to, r))
+            }
+            _ => false,
+        }
+    }
+}
+
+// Whether an interval is in that of what is looked for.
+fn is_wanted(sought: Sought, arc: Option<Arc>) -> bool {
+    let Some(arc) = arc else {
+        return false;
+    };
+    let first = arc.low().wrapping_sub(sought.wanted.low()) % WORDS;
+    first.saturating_add(arc.more()) <= sought.wanted.more()
 }
 
 // What both say, or nothing where it goes on changing.
@@ -343,8 +401,14 @@ impl Standing {
         let rows = self.join_rows(other, ends);
         let words = self.join_words(other, ends);
         let touched = self.touched && other.touched;
-        let changed = rows || words || touched != self.touched;
+        let holder = if self.holder == other.holder {
+            self.holder
+        } else {
+            None
+        };
+        let changed = rows || words || touched != self.touched || holder != self.holder;
         self.touched = touched;
+        self.holder = holder;
         changed
     }
 }
@@ -423,11 +487,13 @@ impl Walk {
         if !look.scope.is_live(k) {
             return;
         }
-        let then = look.behind(&known, k);
+        let mut then = look.behind(&known, k);
+        let touched = then.touched;
         let calls = look.scope.callee_of(k).is_some();
         for to in look.scope.targets_of(k) {
             if let Some(to) = to {
                 if calls || !look.scope.is_never(k, to) {
+                    then.touched = touched || (!calls && look.is_found(&known, k, to));
                     self.take(look, to, &then);
                 }
             }

@@ -5,18 +5,26 @@ ghost use Rattle.std.specs.Prelude.{◌<◌, length};
 use crate::grounds::{Ground, ground_of};
 use crate::quiet::quiet_of;
 use crate::scope::Scope;
+use crate::searches::{not_zero, runs_of, start_of};
 use crate::traced::{Term, Value, scaled, sum};
 use crate::turning::Numbers;
 use crate::walking::{FIRST_WORD, Look, Standing, Walk, Words, accessed, walk_of};
-use scale_base::NoMemory;
+use scale_base::{Instr, LoadOp, NoMemory};
 use std::alloc::Global;
-use walk_checks::{Trace, WalkPlace, WalkTable, WordTrace};
+use walk_checks::{Sought, Trace, WalkPlace, WalkTable, WordTrace};
 use wrapped_intervals::Arc;
 
 /// How many nodes of a loop are looked at, and how many addresses.
 const MOST_NODES: usize = 2048;
 
 const MOST_AIMS: usize = 8;
+
+/// Which walks are looked at: those up to a 0 in constant bytes, or these and those through areas.
+#[derive(Clone, Copy)]
+pub enum WalkKinds {
+    ToZero,
+    All,
+}
 
 // How a walk moves its pointer: down or up, by so much at least, and so much more at most.
 #[derive(Clone, Copy)]
@@ -123,6 +131,8 @@ struct Found {
     aim: Value,
     way: Move,
     walk: Walk,
+    start: Option<Arc>,
+    sought: Option<Sought>,
     ground: Ground,
     width: u32,
 }
@@ -158,9 +168,84 @@ fn walk_by(alloc: Global, look: &Look<'_>, aim: Value) -> Result<Option<Found>, 
             aim,
             way,
             walk,
+            start: None,
+            sought: None,
             width: ground.longest.saturating_add(way.least),
             ground,
         })),
+        None => Ok(None),
+    }
+}
+
+// The walk by an address up to where a load gives 0 of bytes that no store changes, if each turn moves its pointer.
+fn search_by(
+    alloc: Global,
+    look: &Look<'_>,
+    aim: Value,
+    op: LoadOp,
+) -> Result<Option<Found>, NoMemory> {
+    let sought = Some(not_zero(op));
+    let aimed = Look {
+        aim: Some(aim),
+        sought,
+        ..*look
+    };
+    let Some(walk) = walk_of(alloc, &aimed, &begun_of(&aim))? else {
+        return Ok(None);
+    };
+    let Some(end) = walk.end else {
+        return Ok(None);
+    };
+    let Some(way) = move_of(&end, &aim) else {
+        return Ok(None);
+    };
+    if way.down || way.spread > 0 {
+        return Ok(None);
+    }
+    let Some(start) = start_of(look.scope, look.words, &aim) else {
+        return Ok(None);
+    };
+    match runs_of(alloc, look.scope.fixed(), op, &start, way.least)? {
+        Some(ground) => Ok(Some(Found {
+            aim,
+            way,
+            walk,
+            start: Some(start),
+            sought,
+            width: ground.longest.saturating_add(way.least),
+            ground,
+        })),
+        None => Ok(None),
+    }
+}
+
+// The kind of the first load at an address.
+fn load_at(look: &Look<'_>, walk: &Walk, aim: &Value) -> Option<LoadOp> {
+    for k in look.scope.nodes {
+        if let (Some(known), Instr::Load { op, .. }) = (
+            walk.at(look.numbers.of(*k)),
+            look.scope.instr(*k),
+        ) {
+            if look.scope.is_live(*k) && accessed(look.scope, &known, *k) == Some(*aim) {
+                return Some(op);
+            }
+        }
+    }
+    None
+}
+
+// The walk by the loads at an address, if there are any.
+fn searched(
+    alloc: Global,
+    look: &Look<'_>,
+    all: &Walk,
+    aim: Value,
+) -> Result<Option<Found>, NoMemory> {
+    if look.scope.fixed().is_empty() {
+        return Ok(None);
+    }
+    match load_at(look, all, &aim) {
+        Some(op) => search_by(alloc, look, aim, op),
         None => Ok(None),
     }
 }
@@ -181,14 +266,17 @@ fn better(a: Option<Found>, b: Option<Found>) -> Option<Found> {
 }
 
 // The walk of the least bound.
-fn best_walk(alloc: Global, look: &Look<'_>) -> Result<Option<Found>, NoMemory> {
+fn best_walk(alloc: Global, look: &Look<'_>, kinds: WalkKinds) -> Result<Option<Found>, NoMemory> {
     let Some(all) = walk_of(alloc, look, &all_begun(look.words))? else {
         return Ok(None);
     };
     let aims = aims_of(alloc, look, &all)?;
     let mut best = None;
     for aim in &aims {
-        best = better(best, walk_by(alloc, look, *aim)?);
+        if matches!(kinds, WalkKinds::All) {
+            best = better(best, walk_by(alloc, look, *aim)?);
+        }
+        best = better(best, searched(alloc, look, &all, *aim)?);
     }
     Ok(best)
 }
@@ -282,6 +370,7 @@ struct Rows {
     rows: Vec<Vec<Option<Trace>>>,
     words: Vec<Vec<WordTrace>>,
     touched: Vec<bool>,
+    holders: Vec<Option<u8>>,
 }
 
 // The rows of a node.
@@ -297,11 +386,13 @@ fn add_rows(
             all.rows.push(row_of(alloc, pair, &known)?)?;
             all.words.push(words_of(alloc, pair, words, &known)?)?;
             all.touched.push(known.touched)?;
+            all.holders.push(known.holder)?;
         }
         None => {
             all.rows.push(Vec::new(alloc))?;
             all.words.push(Vec::new(alloc))?;
             all.touched.push(false)?;
+            all.holders.push(None)?;
         }
     }
     Ok(())
@@ -313,6 +404,7 @@ fn rows_of(alloc: Global, look: &Look<'_>, found: &Found) -> Result<Rows, NoMemo
         rows: Vec::new(alloc),
         words: Vec::new(alloc),
         touched: Vec::new(alloc),
+        holders: Vec::new(alloc),
     };
     let pair = Pair::of(&found.aim);
     for k in 0..look.scope.body.len() {
@@ -328,11 +420,14 @@ fn table_of(alloc: Global, look: &Look<'_>, found: Found) -> Result<WalkTable, N
         rows,
         words,
         touched,
+        holders,
     } = rows_of(alloc, look, &found)?;
     let Found {
         aim,
         way,
         walk: _,
+        start,
+        sought,
         ground,
         width,
     } = found;
@@ -357,17 +452,24 @@ fn table_of(alloc: Global, look: &Look<'_>, found: Found) -> Result<WalkTable, N
         spread: way.spread,
         width,
         place,
+        start,
+        sought,
         ground: intervals,
         body: look.scope.body.clone()?,
         rows,
         words,
         touched,
+        holders,
         quiet: quiet_of(alloc, look.scope)?,
     })
 }
 
 /// A table of a walk of a loop, of the least bound that is found; none where no pointer is found that each turn uses and moves on.
-pub fn find_walk(alloc: Global, scope: &Scope<'_>) -> Result<Option<WalkTable>, NoMemory> {
+pub fn find_walk(
+    alloc: Global,
+    scope: &Scope<'_>,
+    kinds: WalkKinds,
+) -> Result<Option<WalkTable>, NoMemory> {
     if scope.nodes.len() > MOST_NODES {
         return Ok(None);
     }
@@ -378,8 +480,9 @@ pub fn find_walk(alloc: Global, scope: &Scope<'_>) -> Result<Option<WalkTable>, 
         words: &words,
         numbers: &numbers,
         aim: None,
+        sought: None,
     };
-    match best_walk(alloc, &look)? {
+    match best_walk(alloc, &look, kinds)? {
         Some(found) => Ok(Some(table_of(alloc, &look, found)?)),
         None => Ok(None),
     }

@@ -112,8 +112,12 @@ fn place_of(measure: Measure) -> Place {
 
 // What turns do to what they count in, by the factor of a counter that goes up from 0.
 fn way_of(certificate: &StackCertificate, factor: u32) -> Way {
-    if certificate.walk.is_some() {
-        return Way::Along;
+    if let Some(table) = &certificate.walk {
+        return if table.sought.is_some() {
+            Way::ToZero
+        } else {
+            Way::Along
+        };
     }
     match &certificate.turns {
         Some(table) if matches!(&table.kind, TurnKind::Halves(_)) => Way::Shorter,

@@ -17,19 +17,20 @@ pub enum Place {
     Input,
 }
 
-/// What each turn of a loop does to a place: it moves it up or down, takes bits away from it, as a division by a power of 2 does, or moves it along an area of
-/// memory, up or down.
+/// What each turn of a loop does to a place: it moves it up or down, takes bits away from it, as a division by a power of 2 does, or moves it along memory: an
+/// area, up or down, or constant bytes, up to a 0.
 #[derive(Clone, Copy)]
 pub enum Way {
     Up,
     Down,
     Shorter,
     Along,
+    ToZero,
 }
 
 /// A place that each turn of a loop moves on by `step` at least, and that is within a span of `width` numbers at the header. Where turns take bits away, each takes
 /// `step` of them at least, and the place has so many at the header that they fit into `width` as often as turns may begin with one. Where they move it along an
-/// area, that has at most `width` bytes.
+/// area, that has at most `width` bytes; where up to a 0, that is at most `width` bytes on.
 #[derive(Clone, Copy)]
 pub struct Counter {
     pub place: Place,

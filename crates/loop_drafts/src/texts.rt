@@ -110,6 +110,10 @@ fn push_way(text: &mut String, counter: Counter) -> Result<(), AllocError> {
             text,
             " goes {step} or more bytes along memory each turn, in an area of at most {width} bytes"
         ),
+        Way::ToZero => write!(
+            text,
+            " goes {step} or more bytes along memory each turn, up to a 0 at most {width} bytes on"
+        ),
     }
 }
 

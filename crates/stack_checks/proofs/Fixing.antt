@@ -3,9 +3,7 @@ use Rattle.std.proofs.Common.{◌≡◌, ◌<◌, ◌≤◌, ◌+◌, ◌-◌, �
 use Rattle.std.specs.List.{All, find, list_any, filter}
 use Rattle.std.specs.Prelude.{map, slice_get, slice_index, nat_le, nat_lt}
 use Rattle.std.proofs.lemmas.Bool.{and_parts, and_from, both_ways, cond_both, false_from_ne_true, leb-true, ltb-true, or_from}
-use Rattle.std.proofs.lemmas.Nat.{mul-le}
 use Rattle.std.proofs.lemmas.Option.{get_or_from_slice_get}
-use Rattle.std.proofs.Math.Nat.{le-div_iff_mul-le, mul_comm}
 use Rattle.flow_graph.proofs.Laws.{some_is}
 use Rattle.scale_base.specs.declared.instruction.LoadOp.{LoadOp}
 use Rattle.scale_base.specs.declared.ranges.Span.{Span}
@@ -17,40 +15,16 @@ use Rattle.bound_laws.specs.Values.{Arc, IsIn, ahead}
 use Rattle.stack_laws.specs.Fixed.{AreFixedIn, AreUnwritten, GivesFixed}
 use Rattle.stack_tables.specs.declared.tables.FixedPart.{FixedPart}
 use Rattle.stack_tables.specs.Tables.{byte_of, fixed_in, has_address}
+use Rattle.stack_tables.proofs.Laws.{each_number}
 use Rattle.stack_checks.specs.declared.cells.Loading.{Loading}
 use Rattle.stack_checks.specs.Checked.{GivesAt, HasBytes, IsApartFrom, IsFixedPart, IsUnwrittenIn}
 
 -- ---- loads
 
--- so many strides are at most as many as fit
-pub strides_within : (n stride more : ℕ) → 0 < stride → stride * n ≤ more → n ≤ more / stride
-strides_within n stride more some within = (le-div_iff_mul-le some).1 (subst (λ (x : ℕ). x ≤ more) (mul_comm stride n) within)
-
--- they are far below all that is counted
-pub strides_few : (n stride : ℕ) → stride < 2 ^ 32 → n ≤ 2 ^ 11 → stride * n ≤ 2 ^ 32 * 2 ^ 11
-strides_few n stride short few = mul-le stride n (2 ^ 32) (2 ^ 11) (omega arith) few
-
--- a number of an interval by how far it is behind the first one
-number_at : (low at d : ℕ) → at < 2 ^ 32 → low < 2 ^ 32 → ahead low at ≡ d → (low + d) % 2 ^ 32 ≡ at
-number_at low at d word start behind = omega arith
-
-none_of : (n : ℕ) → 0 * n ≡ 0 * 0
-none_of n = omega arith
-
 -- What is so at so many numbers of an interval, a stride from one to the next, is so at all of them.
-pub gives_all : (fixed : ℕ → Option ℕ) (x : Loading) (place : Arc) (steps : ℕ) → ((n : ℕ) → 0 < place.stride → place.stride * n ≤ place.more → n ≤ steps) →
-    ((n : ℕ) → n < steps + 1 → GivesAt fixed x ((place.low + place.stride * n) % 2 ^ 32)) → GivesFixed fixed x.op place x.values
-gives_all fixed x place steps last each at inside = subst (GivesAt fixed x) (number_at place.low at (place.stride * number.0) inside.word inside.start (inside.step.1 ∙ number.2)) (each number.0 number.1)
-  where
-    within : place.stride * inside.step.0 ≤ place.more
-    within = let e = inside.step.1 in let near = inside.near in omega (arith, e, near)
-
-    number : (n : ℕ) × (n < steps + 1) × (place.stride * inside.step.0 ≡ place.stride * n)
-    number = by place.stride refl
-      where
-        by : (stride : ℕ) → place.stride ≡ stride → (n : ℕ) × (n < steps + 1) × (place.stride * inside.step.0 ≡ place.stride * n)
-        by zero none = (0, omega arith, subst (λ (s : ℕ). s * inside.step.0 ≡ s * 0) (sym none) (none_of inside.step.0))
-        by (suc s) some = (inside.step.0, (let few = last inside.step.0 (subst (λ (y : ℕ). 0 < y) (sym some) (omega arith)) within in omega (arith, few)), refl)
+pub gives_all : (fixed : ℕ → Option ℕ) (x : Loading) (place : Arc) (count : ℕ) → (0 < place.stride → count ≡ place.more / place.stride) →
+    ((n : ℕ) → n < count + 1 → GivesAt fixed x ((place.low + place.stride * n) % 2 ^ 32)) → GivesFixed fixed x.op place x.values
+gives_all fixed x place count last each = each_number (GivesAt fixed x) place count last each
 
 -- of the same bytes by other words
 pub gives_same : (f g : ℕ → Option ℕ) → ((at : ℕ) → f at ≡ g at) → (op : LoadOp) (place : Arc) (values : Option Arc) → GivesFixed f op place values → GivesFixed g op place values

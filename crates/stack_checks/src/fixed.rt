@@ -1,7 +1,6 @@
 //! Bytes that no store changes: that an image has them where nothing may be written, and what loads of them give.
 
 ghost use Rattle.std.specs.Prelude.{◌≡◌, ◌<◌, ◌≤◌, ◌+◌, ◌*◌, ◌%◌, ◌^◌, ℕ, length, slice_index, Some, false, true};
-ghost use Rattle.scale_base.specs.Arith as ops;
 ghost use Rattle.scale_base.specs.Image.{LoadSegment, addresses_of, loaded_byte, PF_W};
 ghost use Rattle.scale_base.specs.Elf.{has};
 ghost use Rattle.scale_base.specs.Layout.{layout_of};
@@ -19,26 +18,13 @@ use crate::memory::byte_at;
 use crate::ways::{Way, arc_behind};
 use elf_image::{ImageView, Segment};
 use scale_base::{Instr, LoadOp, PF_W, STACK, Span};
-use stack_tables::{FixedPart, StackClaim, fixed_load, fixed_parts, held_at};
+use stack_tables::{
+    FixedPart, StackClaim, fixed_load, fixed_parts, held_at, load_width, number_at, stride_count,
+};
 use wrapped_intervals::{Arc, holds, is_kept, sum_with};
-
-// How many words there are.
-const WORDS: u64 = 4_294_967_296;
 
 // At how many addresses a load is looked at, at most.
 const MOST_ADDRESSES: u64 = 1_024;
-
-// How many bytes a load loads.
-fn load_width(op: LoadOp) -> u32
-    ensures width { result ≡ ops.load_width op }
-    ensures some { 0 < result }
-{
-    match op {
-        LoadOp::Lb | LoadOp::Lbu => 1,
-        LoadOp::Lh | LoadOp::Lhu => 2,
-        LoadOp::Lw => 4,
-    }
-}
 
 // Whether a load at an address gives a number of the interval, or traps since it isn't aligned.
 fn is_given_at(loading: &Loading, parts: &[FixedPart], at: u32) -> bool
@@ -54,38 +40,18 @@ fn is_given_at(loading: &Loading, parts: &[FixedPart], at: u32) -> bool
     }
 }
 
-// The number of an interval that is so many of its strides behind the first.
-fn number_of(place: Arc, n: u64) -> u32
-    requires place { IsKept place }
-    requires few { n ≤ 2 ^ 11 }
-    ensures { result ≡ (place.low + place.stride * n) % 2 ^ 32 }
-{
-    ((place.low() + place.stride() * n) % WORDS) as u32
-}
-
-// How many of its strides the last number of an interval is behind the first, at most.
-fn steps_of(place: Arc) -> u64
-    ensures { (n : ℕ) → 0 < place.stride → place.stride * n ≤ place.more → n ≤ result }
-{
-    if place.stride() == 0 {
-        0
-    } else {
-        place.more() / place.stride()
-    }
-}
-
 // Whether that is so at each address of an interval.
 fn are_given(loading: &Loading, parts: &[FixedPart], place: Arc) -> bool
     requires values { IsKeptOr loading.now.values }
     requires place { IsKept place }
     ensures { result ≡ true → GivesFixed (fixed_in parts.now) loading.now.op place loading.now.values }
 {
-    let steps = steps_of(place);
-    if steps >= MOST_ADDRESSES {
+    let strides = stride_count(place);
+    if strides >= MOST_ADDRESSES {
         return false;
     }
-    for n in 0..steps + 1 {
-        if !is_given_at(loading, parts, number_of(place, n)) {
+    for n in 0..strides + 1 {
+        if !is_given_at(loading, parts, number_at(place, n)) {
             return false;
         }
     }

@@ -2,7 +2,7 @@
 //! stack at each node, which registers the functions give back as they found them, numbers in memory that are always in an interval, what
 //! registers that are 0, or aren't, tell of others, which are divided while others count how often, and intervals of addresses that hold all
 //! that may be loaded from or stored to.
-//! Tests: crates/graph_tests/src/stack_bounds.rt.
+//! Tests: crates/graph_tests/src/stack_bounds.rt and fixed_loads.rt.
 #![tactic(auto)]
 
 mod accesses;

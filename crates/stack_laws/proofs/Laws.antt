@@ -4,7 +4,7 @@ pub use Rattle.stack_laws.proofs.Bounds.{image_laid, image_told, shown_kept, sho
 pub use Rattle.stack_laws.proofs.Counts.{stacks_bound_turns}
 pub use Rattle.stack_laws.proofs.Runs.{Holds, Returned, over_holds, call_holds, back_holds}
 pub use Rattle.stack_laws.proofs.Stepping.{gets, puts, misses}
-pub use Rattle.stack_laws.proofs.Cells.{one_byte, two_bytes, four_bytes}
+pub use Rattle.stack_laws.proofs.Cells.{one_byte, two_bytes, four_bytes, reads}
 pub use Rattle.stack_laws.proofs.Areas.{usable, disjoint}
-pub use Rattle.stack_laws.proofs.Fixed.{bytes_kept}
+pub use Rattle.stack_laws.proofs.Fixed.{bytes_kept, reads_aligned}
 pub use Rattle.stack_laws.proofs.Written.{numbers, results}

@@ -2,3 +2,4 @@ pub mod Seen
 mod Public
 pub mod Laws
 mod Fixing
+mod Numbers

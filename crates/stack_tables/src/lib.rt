@@ -1,6 +1,6 @@
 //! Tables of what is known of registers and of words of the stack at each node of a program, as `stack_laws` says stacks, and what they say
 //! of an instruction: to which words it stores, which it misses, and what a call keeps.
-//! Tests: crates/graph_tests/src/stack_bounds.rt.
+//! Tests: crates/graph_tests/src/stack_bounds.rt and fixed_loads.rt.
 #![tactic(auto)]
 
 mod apart;
@@ -14,12 +14,13 @@ mod rows;
 mod safe;
 mod sizes;
 mod stores;
+mod strides;
 mod tables;
 
 pub use apart::{known_sum, known_sums};
 pub use claims::StackClaim;
 pub use fixed::{fixed_byte, fixed_load};
-pub use memory::{Storing, is_kept_by, is_loaded_from};
+pub use memory::{Storing, is_kept_by, is_loaded_from, load_width};
 pub use names::{is_same_name, more_of, name_span};
 pub use predicates::{
     is_live_at, is_missed_by, is_restored_by, is_safe_at, line_at, name_at, stored_word, word_at,
@@ -34,6 +35,7 @@ pub use stores::{
     MOST_WORDS, arc_at, held_at, is_far, is_missed, is_sparing, is_steady, loaded_to, name_arc,
     stored_by, stored_from, word_number,
 };
+pub use strides::{number_at, stride_count};
 pub use tables::{
     Cell, Dwindling, FixedPart, MOST_AREAS, MOST_CELLS, MOST_DWINDLING, MOST_PARTS, MOST_TOLD,
     Name, StackTable, Told, Word,

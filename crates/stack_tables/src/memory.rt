@@ -1,6 +1,6 @@
 //! Cells: numbers in memory that are always in an interval, and what is stored and loaded there.
 
-ghost use Rattle.std.specs.Prelude.{◌≡◌, ◌≤◌, ◌*◌, ◌^◌, Some, true};
+ghost use Rattle.std.specs.Prelude.{◌≡◌, ◌≤◌, ◌<◌, ◌*◌, ◌^◌, Some, true};
 ghost use Rattle.scale_base.specs.Arith.{load_width};
 ghost use Rattle.stack_laws.specs.Cells as cells;
 ghost use Rattle.wrapped_intervals.specs.Small.{IsFoundOr, IsKept};
@@ -86,9 +86,10 @@ pub fn is_kept_by(storing: &Storing, cell: &Cell) -> bool
     is_beside(storing.place, storing.width, cell) || is_stored_into(storing, cell)
 }
 
-// How many bytes a load loads.
-fn width_loaded(op: LoadOp) -> u8
-    ensures { result ≡ load_width op }
+/// How many bytes a load loads.
+pub fn load_width(op: LoadOp) -> u32
+    ensures width { result ≡ load_width op }
+    ensures some { 0 < result }
 {
     match op {
         LoadOp::Lb | LoadOp::Lbu => 1,
@@ -116,6 +117,6 @@ pub fn is_loaded_from(op: LoadOp, place: Option<Arc>, cell: &Cell) -> bool
     ensures { result ≡ true → cells.IsLoadedFrom op place (cell_view cell.now) }
 {
     is_only(place, cell.at)
-        && width_loaded(op) == cell.width
+        && load_width(op) == u32::from(cell.width)
         && cell.values.top() < unsigned_below(op)
 }

@@ -31,8 +31,11 @@ use std::alloc::Global;
 use std::collections::BinaryHeap;
 use wrapped_intervals::Arc;
 
-/// How many words of the stack are known at all nodes together, at most: about 90 MB. A program of 30,000 instructions has room for 36 at each.
-const MOST_WORDS: usize = 1_100_000;
+/// How many words of the stack are known at all nodes together, at most, and by how many fewer for each node: what nodes take themselves and what
+/// words take come to some 500 MB in all, however many nodes there are.
+const MOST_WORDS: usize = 6_000_000;
+
+const WORDS_OF_A_NODE: usize = 37;
 
 /// What is known of a function: the row at its returns, whether a state is there, the registers that it gives back, whether it stores nothing to the
 /// words of functions that wait, what x2 has when it begins, how often that has grown, and the number of the first of its words that calls may store to.
@@ -178,7 +181,7 @@ impl<'a> Growth<'a> {
             waits: vec![in alloc; false; nodes]?,
             flowed: 0,
             haste: nodes.saturating_mul(60).saturating_add(100_000),
-            room: MOST_WORDS,
+            room: MOST_WORDS.saturating_sub(nodes.saturating_mul(WORDS_OF_A_NODE)),
         })
     }
 

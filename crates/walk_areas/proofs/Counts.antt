@@ -1,6 +1,7 @@
 -- A loop with a certificate of a walk turns no more often than its width allows.
 use Rattle.std.proofs.Common.{◌≡◌, ℕ, ◌*◌, ◌<◌, ◌≤◌, ◌^◌, ⊎_elim, Bool, true, false, List, [], ◌∷◌, map, refl, sym, ap, ◌∙◌, subst, Option, Some, None}
 use Rattle.std.specs.Prelude.{All}
+use Rattle.std.proofs.lemmas.Bool.{both_ways}
 use Rattle.scale_base.specs.declared.instruction.Instr.{Instr}
 use Rattle.scale_base.specs.declared.stepping.Move.TheVariants.{Return}
 use Rattle.scale_base.specs.declared.stepping.Stepped.{Stepped}
@@ -19,18 +20,19 @@ use Rattle.graph_runs.specs.RunTransitions.{after_call, IsStack}
 use Rattle.graph_runs.specs.KeptSteps.{Carried, carried_first, source_of}
 use Rattle.graph_runs.specs.KeptRuns.{kept_at}
 use Rattle.graph_runs.proofs.Laws.{went_at}
-use Rattle.bound_laws.specs.Turning.{unasked, Leads}
-use Rattle.bound_laws.specs.Values.{IsImpossible, IsRegister, said, Values, AreBytes, Steps}
+use Rattle.bound_laws.specs.Turning.{unasked, Leads, Calls}
+use Rattle.bound_laws.specs.Values.{IsHeld, IsImpossible, IsRegister, said, Values, AreBytes, Steps}
 use Rattle.bound_laws.proofs.Laws.{KeptStep, At, Onward, Way, fetched, over_edge, into_call, back_to, along, site_small, site_back, possible, so_behind, no_turns}
 use Rattle.stack_laws.specs.Areas.{IsLaidOut}
 use Rattle.stack_laws.specs.Stacks.{Stacks, View, view_of, IsRestored, IsSafe, IsStackInvariant, AreTold}
 use Rattle.stack_laws.proofs.Laws.{Holds, Returned, over_holds, call_holds, back_holds}
-use Rattle.walk_areas.specs.Walking.{Trace, IsTraced, IsWider, Place, number_in, WalkCertificate, IsWalkCertificate, IsRowBack, IsWordBack, IsPlaceBack, IsPossible}
+use Rattle.walk_areas.specs.Walking.{Trace, IsTraced, IsWider, Place, number_in, WalkCertificate, IsWalkCertificate, IsRowBack, IsWordBack, IsPlaceBack, IsHolderBack, IsPossible}
 use Rattle.walk_areas.specs.Walking.Place.{in_register, in_word}
 use Rattle.walk_areas.specs.Laws.{WalkCertificatesBoundTurns}
 use Rattle.walk_areas.proofs.Traces.{wider_in, same_in}
-use Rattle.walk_areas.proofs.Facts.{Facts, few, fresh, turned}
-use Rattle.walk_areas.proofs.Steps.{row_over, word_over, place_over, touches}
+use Rattle.walk_areas.proofs.Facts.{Facts, IsGiven, aimed, aimed_at, anew, few, fresh, given_same, turned}
+use Rattle.walk_areas.proofs.Steps.{row_over, word_over, place_over, touches, holder_over}
+use Rattle.walk_areas.proofs.Starts.{starts_in}
 use Rattle.walk_areas.proofs.Turns.{Level, Mode, IsPassedOn, turned as turned_so, along_edge, along_call, along_return, after_edge, after_call_to}
 use Rattle.walk_areas.proofs.Turns.Mode.{at_level}
 use Rattle.walk_areas.proofs.Turns.Level.{within, elsewhere}
@@ -47,19 +49,23 @@ module _ (t : Text) (env : Setting) (ok : IsTextOf t env) (code : Code) (is : Is
   h = l.header k
 
   abbrev F : ℕ → ℕ → View → Type 0
-  F = Facts w.areas c cert.ground
+  F = Facts w.areas w.fixed c cert.ground
 
   abbrev fewer_than : (a n : ℕ) (x : View) → F a n x → n * c.least ≤ c.width
-  fewer_than = few w.areas c cert.ground
+  fewer_than = few w.areas w.fixed c cert.ground
+
+  abbrev begins_anew : (n : ℕ) (x : View) → F h n x → F h 0 x
+  begins_anew = anew t g v w h (l.inside k) c cert
 
   abbrev Passed : ℕ → ℕ → ℕ → View → Type 0
-  Passed = IsPassedOn t g v w h (l.inside k) c cert F fewer_than
+  Passed = IsPassedOn t g v w h (l.inside k) c cert F fewer_than begins_anew
 
   abbrev M : ℕ → List ℕ → List View → ℕ → View → Type 0
-  M = Mode t g v w h (l.inside k) c cert F fewer_than
+  M = Mode t g v w h (l.inside k) c cert F fewer_than begins_anew
 
-  anew : (x : View) → F h 0 x
-  anew x = fresh t g v w h (l.inside k) c cert x
+  -- where the loop is entered, and nothing is said of where the pointer is then
+  unstarted : c.start ≡ None → (x : View) → F h 0 x
+  unstarted none x = fresh t g v w h (l.inside k) c cert x (subst (λ o. IsHeld o (aimed_at t g v w h (l.inside k) c cert x)) (sym none) tt)
 
   -- a run is where the tables hold, and in a mode of the certificate
   record Stands (u : State) (calls : List ℕ) (d : Carried) : Type 0 where
@@ -78,7 +84,7 @@ module _ (t : Text) (env : Setting) (ok : IsTextOf t env) (code : Code) (is : Is
 
   -- ---- over an edge of an instruction that is no call
   module _ (u : State) (rs : List ℕ) (at : At t u rs) (x : Stepped) (went : (step env u).end ≡ Went x) (begun : List ℕ) (xs : List View)
-      (now : Holds t env ok code is fine v w inv laid input u at.calls begun xs) (count : ℕ) (facts : F u.pc count (view_of w begun u.regs u.bytes)) (inside : c.body u.pc ≡ true) where
+      (now : Holds t env ok code is fine v w inv laid input u at.calls begun xs) where
     abbrev next : State
     next = (step env u).state
 
@@ -97,15 +103,20 @@ module _ (t : Text) (env : Setting) (ok : IsTextOf t env) (code : Code) (is : Is
         (so_behind env laid.keyless u (v.at u.pc) at.over.zero at.over.size now.told.registers.each now.memory i x fetch went)
         (subst (λ n. IsImpossible (said i u.pc n) (v.at u.pc)) (sym same) h)
 
-    over_passed : Leads g u.pc next.pc → Steps g u.pc next.pc → Passed u.pc next.pc count (view_of w begun next.regs next.bytes)
-    over_passed leads steps = record {
-      anew = λ e. anew (view_of w begun next.regs next.bytes);
+    started : next.pc ≡ h → Steps g u.pc next.pc → c.body u.pc ≡ false → F h 0 (view_of w begun next.regs next.bytes)
+    started e steps off = fresh t g v w h (l.inside k) c cert (view_of w begun next.regs next.bytes)
+        (starts_in env laid.keyless v w inv.offsets u at.over.zero at.over.size begun now.told i fetch x went now.memory c h e
+        (cert.starts u.pc i (subst (λ n. Steps g u.pc n) e steps) now.told.registers.live off there.1 (possible_on h e)))
+
+    over_passed : (count : ℕ) (facts : F u.pc count (view_of w begun u.regs u.bytes)) (inside : c.body u.pc ≡ true) → Leads g u.pc next.pc → Steps g u.pc next.pc → Passed u.pc next.pc count (view_of w begun next.regs next.bytes)
+    over_passed count facts inside leads steps = record {
+      anew = λ e off. absurd (both_ways (c.body u.pc) off inside);
       turn = λ e _.
           let q = cert.turns u.pc i (subst (λ n. Steps g u.pc n) e steps) now.told.registers.live inside there.1 (possible_on h e) in
           turned t g v w h (l.inside k) c cert count facts.first facts.second (view_of w begun next.regs next.bytes) q.first q.second
           (place_over env laid.keyless v w inv.offsets u at.over.zero at.over.size begun now.told i fetch x went c cert.ground count facts c.first q.first q.first_over)
           (place_over env laid.keyless v w inv.offsets u at.over.zero at.over.size begun now.told i fetch x went c cert.ground count facts c.second q.second q.second_over) q.moved
-          (touches env laid.keyless v w inv.offsets u at.over.zero at.over.size begun now.told i fetch x went c cert.ground count facts laid q.touched);
+          (touches env laid.keyless v w inv.offsets u at.over.zero at.over.size begun now.told i fetch x went c cert.ground count facts now.memory laid h e q.touched);
       on = λ other _ on. record {
         first = facts.first;
         second = facts.second;
@@ -114,8 +125,10 @@ module _ (t : Text) (env : Setting) (ok : IsTextOf t env) (code : Code) (is : Is
             (cert.along u.pc next.pc r i steps now.told.registers.live inside on other there.1 (possible_on next.pc refl) q);
         words = λ j. word_over env laid.keyless v w inv.offsets u at.over.zero at.over.size begun now.told i fetch x went c cert.ground count facts j (c.word next.pc j)
             (cert.along_words u.pc next.pc j i steps now.told.registers.live inside on other there.1 (possible_on next.pc refl));
-        touched = λ q. touches env laid.keyless v w inv.offsets u at.over.zero at.over.size begun now.told i fetch x went c cert.ground count facts laid
+        touched = λ q. touches env laid.keyless v w inv.offsets u at.over.zero at.over.size begun now.told i fetch x went c cert.ground count facts now.memory laid next.pc refl
             (cert.along_touched u.pc next.pc i steps now.told.registers.live inside on other there.1 (possible_on next.pc refl) q);
+        holder = holder_over env laid.keyless v w inv.offsets u at.over.zero at.over.size begun now.told i fetch x went c cert.ground count facts now.memory laid (c.holder next.pc)
+            (cert.along_holder u.pc next.pc i steps now.told.registers.live inside on other there.1 (possible_on next.pc refl));
       };
     }
 
@@ -138,9 +151,17 @@ module _ (t : Text) (env : Setting) (ok : IsTextOf t env) (code : Code) (is : Is
     place_back (in_register r) b q = row_back r q.0 b q.1
     place_back (in_word j) b q = word_back j b q
 
+    holder_back : (b : Option ℕ) → IsHolderBack t v w c u back.to b → (r : ℕ) → b ≡ Some r → IsGiven w.areas w.fixed c (aimed c facts.first facts.second) (reg next.regs r)
+    holder_back b q r is = ⊎_elim (λ (none : b ≡ None). let e : None ≡ Some r = sym none ∙ is in let bad : ⊥ = cc in absurd bad)
+        (λ (n : (j : ℕ) × IsRegister j × (b ≡ Some j) × (c.holder u ≡ Some j) × IsRestored t v w u back.to j).
+        let same : Some n.0 ≡ Some r = sym n.2 ∙ is in
+        let e : n.0 ≡ r = cc in
+        subst (λ j. IsGiven w.areas w.fixed c (aimed c facts.first facts.second) (reg next.regs j)) e
+        (given_same w.areas w.fixed c (aimed c facts.first facts.second) (reg y.regs n.0) (reg next.regs n.0) (sym (back.alike n.0 n.1 n.4).0) (facts.holder n.0 n.3))) q
+
     back_passed : Leads g u next.pc → Passed u next.pc count then
     back_passed leads = record {
-      anew = λ e. anew then;
+      anew = λ e off. absurd (both_ways (c.body u) off inside);
       turn = λ e _.
           let q = cert.turns_back u back.to back.call (subst (λ n. Leads g u n) e leads) back.told.registers.live inside in
           turned t g v w h (l.inside k) c cert count facts.first facts.second then q.first q.second
@@ -152,6 +173,7 @@ module _ (t : Text) (env : Setting) (ok : IsTextOf t env) (code : Code) (is : Is
         rows = λ r q. row_back r q (c.row next.pc r) (cert.back u back.to next.pc r back.call leads back.told.registers.live inside on other q);
         words = λ j. word_back j (c.word next.pc j) (cert.back_words u back.to next.pc j back.call leads back.told.registers.live inside on other);
         touched = λ q. facts.touched (cert.back_touched u back.to next.pc back.call leads back.told.registers.live inside on other q);
+        holder = holder_back (c.holder next.pc) (cert.back_holder u back.to next.pc back.call leads back.told.registers.live inside on other);
       };
     }
 
@@ -182,25 +204,25 @@ module _ (t : Text) (env : Setting) (ok : IsTextOf t env) (code : Code) (is : Is
       by_way : Way g u.pc next.pc at.calls on.at.calls x.moved → Stands next on.at.calls f
       by_way (over_edge leads steps after moved) =
           let then = over_holds t env ok code is fine v w inv laid input u d.returns at x kept.went on.at.over now.begun now.views now.holds leads steps in
-          stands at.calls (after_edge t g v w h (l.inside k) c cert F fewer_than u.pc next.pc (d.counts k)) now.begun now.views (counted_as (Some u.pc) (ap (λ m. source_of m u.pc d.returns) moved)) after then
-          (along_edge t g v w h (l.inside k) c cert F fewer_than u.pc next.pc leads now.holds.told.registers.live at.calls now.views (d.counts k) (view_of w now.begun u.regs u.bytes) (view_of w now.begun next.regs next.bytes)
-          (λ _. anew (view_of w now.begun next.regs next.bytes))
+          stands at.calls (after_edge t g v w h (l.inside k) c cert F fewer_than begins_anew u.pc next.pc (d.counts k)) now.begun now.views (counted_as (Some u.pc) (ap (λ m. source_of m u.pc d.returns) moved)) after then
+          (along_edge t g v w h (l.inside k) c cert F fewer_than begins_anew u.pc next.pc leads now.holds.told.registers.live at.calls now.views (d.counts k) (view_of w now.begun u.regs u.bytes) (view_of w now.begun next.regs next.bytes)
+          (λ e off. started u d.returns at x kept.went now.begun now.views now.holds e steps off)
           (λ inside facts. over_passed u d.returns at x kept.went now.begun now.views now.holds (d.counts k) facts inside leads steps) now.mode)
       by_way (into_call call after moved) =
           let seen : View = view_of w now.begun u.regs u.bytes in
           let then = call_holds t env ok code is fine v w inv laid input u d.returns at x kept.went on.at.over now.begun now.views now.holds moved call in
-          stands (u.pc ∷ at.calls) (after_call_to t g v w h (l.inside k) c cert F fewer_than next.pc (d.counts k)) next.regs (seen ∷ now.views) (counted_as None (ap (λ m. source_of m u.pc d.returns) moved)) after then
-          (along_call t g v w h (l.inside k) c cert F fewer_than u.pc next.pc call now.holds.told.registers.live at.calls now.views seen (d.counts k) (view_of w next.regs next.regs next.bytes) at.over.zero
-          (λ _. anew (view_of w next.regs next.regs next.bytes)) now.mode)
+          stands (u.pc ∷ at.calls) (after_call_to t g v w h (l.inside k) c cert F fewer_than begins_anew next.pc (d.counts k)) next.regs (seen ∷ now.views) (counted_as None (ap (λ m. source_of m u.pc d.returns) moved)) after then
+          (along_call t g v w h (l.inside k) c cert F fewer_than begins_anew u.pc next.pc call now.holds.told.registers.live at.calls now.views seen (d.counts k) (view_of w next.regs next.regs next.bytes) at.over.zero
+          (λ e. unstarted (cert.starts_called u.pc (subst (λ n. Calls g u.pc n) e call) now.holds.told.registers.live) (view_of w next.regs next.regs next.bytes)) now.mode)
       by_way (back_to z e to us before after lt from returns call leads moved) =
           let stack : IsStack (kind_at t) t.entry at.function (z ∷ us) = subst (λ y. IsStack (kind_at t) t.entry at.function y) before at.stack in
           let z_small : z < 2 ^ 32 = site_small t env ok code is fine at.function z us stack in
           let source : source_of x.moved u.pc d.returns ≡ Some z =
           ap (λ m. source_of m u.pc d.returns) moved ∙ (ap (λ y. source_of Return u.pc y) (at.returns ∙ ap (map after_call) before) ∙ ap Some (site_back z z_small)) in
           let b = back_holds t env ok code is fine v w inv laid input u d.returns at x kept.went on.at.over now.begun now.views now.holds z e us before lt from returns leads in
-          stands us (after_edge t g v w h (l.inside k) c cert F fewer_than z next.pc (d.counts k)) b.0.begun b.1 (counted_as (Some z) source) after b.3
-          (along_return t g v w h (l.inside k) c cert F fewer_than u.pc z next.pc b.4.to leads b.4.call b.4.told.registers.live us b.1 b.0 (d.counts k) (view_of w now.begun u.regs u.bytes) (view_of w b.0.begun next.regs next.bytes)
-          (λ _. anew (view_of w b.0.begun next.regs next.bytes))
+          stands us (after_edge t g v w h (l.inside k) c cert F fewer_than begins_anew z next.pc (d.counts k)) b.0.begun b.1 (counted_as (Some z) source) after b.3
+          (along_return t g v w h (l.inside k) c cert F fewer_than begins_anew u.pc z next.pc b.4.to leads b.4.call b.4.told.registers.live us b.1 b.0 (d.counts k) (view_of w now.begun u.regs u.bytes) (view_of w b.0.begun next.regs next.bytes)
+          (λ e off. unstarted (cert.starts_back z b.4.to b.4.call (subst (λ n. Leads g z n) e leads) b.4.told.registers.live off) (view_of w b.0.begun next.regs next.bytes))
           (λ zero_before inside facts. back_passed z b.0 next b.4 (d.counts k) facts inside leads)
           (subst (λ y. M u.pc (z ∷ us) y (d.counts k) (view_of w now.begun u.regs u.bytes)) b.2
           (subst (λ y. M u.pc y now.views (d.counts k) (view_of w now.begun u.regs u.bytes)) before now.mode)))
@@ -211,15 +233,15 @@ module _ (t : Text) (env : Setting) (ok : IsTextOf t env) (code : Code) (is : Is
       fresh_view : View
       fresh_view = view_of w s.regs s.regs s.bytes
 
-      go : (b : Bool) → c.body s.pc ≡ b → Level t g v w h (l.inside k) c cert F fewer_than s.pc [] 0 fresh_view
+      go : (b : Bool) → c.body s.pc ≡ b → Level t g v w h (l.inside k) c cert F fewer_than begins_anew s.pc [] 0 fresh_view
       go false out = elsewhere out tt (no_turns c.least c.width)
       go true inside =
           let here : s.pc ≡ h = at_entry ∙ cert.entry (subst (λ y. c.body y ≡ true) at_entry inside) in
-          subst (λ y. Level t g v w h (l.inside k) c cert F fewer_than y [] 0 fresh_view) (sym here) (within cert.first (anew fresh_view) tt)
+          subst (λ y. Level t g v w h (l.inside k) c cert F fewer_than begins_anew y [] 0 fresh_view) (sym here) (within cert.first (unstarted (cert.starts_entry (sym at_entry ∙ here)) fresh_view) tt)
 
   pub counts_within : (n : ℕ) (d : Carried) → kept_at env s (unasked l) n ≡ Some d → d.counts k * c.least ≤ c.width
   counts_within n d kept = (along t env ok code is fine s over at_entry (unasked l) Stands (λ d. d.counts k * c.least ≤ c.width) begins
-      (λ u calls d m. turned_so t g v w h (l.inside k) c cert F fewer_than u.pc calls m.views (d.counts k) (view_of w m.begun u.regs u.bytes) m.mode) goes n d kept).0
+      (λ u calls d m. turned_so t g v w h (l.inside k) c cert F fewer_than begins_anew u.pc calls m.views (d.counts k) (view_of w m.begun u.regs u.bytes) m.mode) goes n d kept).0
 
 pub walks_bound : WalkCertificatesBoundTurns
 walks_bound t env s code v w l k c start reached inv laid starts bytes input cert n d kept =

@@ -3,5 +3,6 @@ mod Grounds
 mod Facts
 mod Turns
 mod Steps
+mod Starts
 mod Counts
 pub mod Laws

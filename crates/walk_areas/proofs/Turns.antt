@@ -11,7 +11,7 @@ use Rattle.stack_laws.specs.Stacks.{Stacks, View}
 use Rattle.walk_areas.specs.Walking.{WalkCertificate, IsWalkCertificate}
 
 module _ (t : Text) (g : Graph) (v : Values) (w : Stacks) (h : ℕ) (extent : ℕ → Bool) (c : WalkCertificate) (cert : IsWalkCertificate t g v w h extent c)
-    (Facts : ℕ → ℕ → View → Type 0) (few : (a n : ℕ) (x : View) → Facts a n x → n * c.least ≤ c.width) where
+    (Facts : ℕ → ℕ → View → Type 0) (few : (a n : ℕ) (x : View) → Facts a n x → n * c.least ≤ c.width) (reset : (n : ℕ) (x : View) → Facts h n x → Facts h 0 x) where
   -- in the body, or elsewhere, while no call from the body is open
   pub data Level (pc : ℕ) (calls : List ℕ) (count : ℕ) (x : View) : Type 0 where
     within : c.body pc ≡ true → Facts pc count x → AreOutside c.body calls → Level pc calls count x
@@ -49,9 +49,9 @@ module _ (t : Text) (g : Graph) (v : Values) (w : Stacks) (h : ℕ) (extent : �
   abbrev pub after_call_to : ℕ → ℕ → ℕ
   after_call_to b count = cond (nat_eq b h) 0 count
 
-  -- over an edge from a to b: what holds from the body on, at the header of a new turn and anew, and elsewhere in the body
+  -- over an edge from a to b: what holds at the header of a new turn, and anew where it comes from elsewhere, and elsewhere in the body
   pub record IsPassedOn (a b count : ℕ) (x : View) : Type 0 where
-    pub anew : b ≡ h → Facts h 0 x
+    pub anew : b ≡ h → c.body a ≡ false → Facts h 0 x
     pub turn : b ≡ h → c.body a ≡ true → Facts h (count + 1) x
     pub on : b ≢ h → c.body a ≡ true → c.body b ≡ true → Facts b count x
 
@@ -59,11 +59,15 @@ module _ (t : Text) (g : Graph) (v : Values) (w : Stacks) (h : ℕ) (extent : �
     to_header : b ≡ h → Level h calls (cond (extent a) (count + 1) 0) x
     to_header same = go (extent a) refl
       where
+        begun : (y : Bool) → c.body a ≡ y → Facts h 0 x
+        begun false off = passed.anew same off
+        begun true on = reset (count + 1) x (passed.turn same on)
+
         to : Leads g a h
         to = subst (λ n. Leads g a n) same leads
 
         go : (y : Bool) → extent a ≡ y → Level h calls (cond (extent a) (count + 1) 0) x
-        go false off = subst (λ n. Level h calls n x) (sym (cond-false _ (count + 1) 0 off)) (within cert.first (passed.anew same) out)
+        go false off = subst (λ n. Level h calls n x) (sym (cond-false _ (count + 1) 0 off)) (within cert.first (begun (c.body a) refl) out)
         go true on = subst (λ n. Level h calls n x) (sym (cond-true _ (count + 1) 0 on)) (within cert.first (passed.turn same (cert.counts a to live on)) out)
 
     to_other : b ≢ h → Level b calls count x
@@ -87,14 +91,14 @@ module _ (t : Text) (g : Graph) (v : Values) (w : Stacks) (h : ℕ) (extent : �
   quiet_count b n count quiet = cond-false _ _ _ (ne_eqb b h (λ same. both_ways (c.quiet h) cert.quiet_apart (subst (λ n. c.quiet n ≡ true) same quiet)))
 
   -- where no fact of the body is needed, none is had
-  outside : (a b count : ℕ) (x : View) → c.body a ≡ false → (b ≡ h → Facts h 0 x) → IsPassedOn a b count x
+  outside : (a b count : ℕ) (x : View) → c.body a ≡ false → (b ≡ h → c.body a ≡ false → Facts h 0 x) → IsPassedOn a b count x
   outside a b count x off anew = record {
     anew = anew;
     turn = λ same in_body. absurd (both_ways (c.body a) off in_body);
     on = λ other in_body on. absurd (both_ways (c.body a) off in_body);
   }
 
-  pub along_edge : (a b : ℕ) → Leads g a b → v.live a ≡ true → (calls : List ℕ) (xs : List View) (count : ℕ) (before after : View) → (b ≡ h → Facts h 0 after) →
+  pub along_edge : (a b : ℕ) → Leads g a b → v.live a ≡ true → (calls : List ℕ) (xs : List View) (count : ℕ) (before after : View) → (b ≡ h → c.body a ≡ false → Facts h 0 after) →
       (c.body a ≡ true → Facts a count before → IsPassedOn a b count after) → Mode a calls xs count before → Mode b calls xs (after_edge a b count) after
   along_edge a b leads live calls xs count before after anew does (at_level level) = at_level (by level)
     where
@@ -130,7 +134,7 @@ module _ (t : Text) (g : Graph) (v : Values) (w : Stacks) (h : ℕ) (extent : �
       subst (λ n. Mode b (a ∷ calls) (x ∷ xs) n after) (sym (quiet_count b _ count quiet)) (called quiet (inl (at, waits)))
 
   -- back from a call at u to a function, by a return at a
-  pub along_return : (a u b to : ℕ) → Leads g u b → Calls g u to → v.live u ≡ true → (calls : List ℕ) (xs : List View) (x : View) (count : ℕ) (before after : View) → (b ≡ h → Facts h 0 after) →
+  pub along_return : (a u b to : ℕ) → Leads g u b → Calls g u to → v.live u ≡ true → (calls : List ℕ) (xs : List View) (x : View) (count : ℕ) (before after : View) → (b ≡ h → c.body u ≡ false → Facts h 0 after) →
       (reg x.regs 0 ≡ 0 → c.body u ≡ true → Facts u count x → IsPassedOn u b count after) → Mode a (u ∷ calls) (x ∷ xs) count before → Mode b calls xs (after_edge u b count) after
   along_return a u b to leads call live calls xs x count before after anew does (at_level level) = at_level (by level)
     where

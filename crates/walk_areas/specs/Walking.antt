@@ -3,20 +3,25 @@
 -- Instructions": an access fault). So the pointer stays in one area, whatever it was at first, and the loop turns no more often than the
 -- longest area has steps. Where the interval of the address is known, only what the areas have in common with it counts. The pointer is a
 -- sum of multiples of two numbers, as a base and an index, each in a register or in a word of the stack. The code has to confirm edge by
--- edge how values depend on both. Induction variables: Aho, Lam, Sethi and Ullman, Compilers, section 9.1.
+-- edge how values depend on both. Induction variables: Aho, Lam, Sethi and Ullman, Compilers, section 9.1. Where a turn goes on only if the
+-- number that it loads is one of an interval, as each but 0, an address from which a load of fixed bytes gives another number ends the walk:
+-- then it counts where the pointer is when the loop is entered, and how far it is from there to such an address.
 use Rattle.std.specs.Prelude.{◌≡◌, ◌≢◌, ℕ, ℤ, ◌+◌, ◌*◌, ◌/◌, ◌%◌, ◌^◌, ◌<◌, ◌≤◌, ◌⊎◌, ◌&&◌, nat_lt, Bool, true, false, Option, Some, None, if◌then◌else◌}
+use Rattle.scale_base.specs.declared.instruction.LoadOp.{LoadOp}
 use Rattle.scale_base.specs.declared.instruction.ImmOp.TheVariants.{Addi, Slli}
 use Rattle.scale_base.specs.declared.instruction.RegOp.TheVariants.{Add}
 use Rattle.scale_base.specs.declared.instruction.Instr.{Instr}
-use Rattle.scale_base.specs.declared.instruction.Instr.TheVariants.{Imm, Reg}
-use Rattle.scale_base.specs.Arith.{unsigned}
+use Rattle.scale_base.specs.declared.instruction.Instr.TheVariants.{Load, Imm, Reg}
+use Rattle.scale_base.specs.Arith.{unsigned, load_width}
+use Rattle.scale_base.specs.Arith as ops
 use Rattle.scale_base.specs.State.{reg}
 use Rattle.cost_theory.specs.Graph.{Graph, Loops}
 use Rattle.code_text.specs.Text.{Text, instr_at}
 use Rattle.bound_laws.specs.Registers.{keeps}
 use Rattle.bound_laws.specs.Turning.{Leads, Calls}
-use Rattle.bound_laws.specs.Values.{Arc, IsHeld, ahead, arc, strided, sum_of, sum_with, scaled, negated_of, held, Covers, meet_of, said, IsImpossible, IsRegister, Values, Steps}
+use Rattle.bound_laws.specs.Values.{Arc, IsIn, IsHeld, ahead, arc, strided, sum_of, sum_with, scaled, negated_of, held, Covers, meet_of, said, passed, IsImpossible, IsRegister, Values, Steps}
 use Rattle.stack_laws.specs.Areas.{IsAccess, AreDisjoint}
+use Rattle.stack_laws.specs.Fixed.{AreFixedIn}
 use Rattle.stack_laws.specs.Stacks.{Stacks, View, IsLoadedTo, IsStoredFrom, IsMissed, IsRestored, IsSafe}
 
 -- ---- values by two numbers
@@ -79,6 +84,11 @@ abbrev pub number_in : Place → View → ℕ
 number_in (in_register r) x = reg x.regs r
 number_in (in_word k) x = x.words k
 
+-- What is looked for: what loads of this kind give, as far as it is in the interval.
+pub record Sought : Type 0 where
+  pub op : LoadOp
+  pub wanted : Arc
+
 -- Why a loop can't turn often. The pointer is so many times what stands in the first place and so many times what stands in the second one.
 pub record WalkCertificate : Type 0 where
   pub first : Place
@@ -92,17 +102,22 @@ pub record WalkCertificate : Type 0 where
   pub least : ℕ
   pub spread : ℕ
   pub width : ℕ
-  -- the interval of the addresses that are accessed, where one is known
+  -- the interval of the addresses that are accessed, where one is known, and that of those that the first turn accesses
   pub place : Option Arc
-  -- intervals of addresses, by number, that hold what is in an area and in the place
+  pub start : Option Arc
+  -- where something is sought: each access is a load of that kind, and the turn goes on only if it gives what is sought
+  pub sought : Option Sought
+  -- intervals of addresses, by number, that hold the addresses that are accessed while the turns go on
   pub ground : ℕ → Option Arc
   -- the code of the loop, with its header
   pub body : ℕ → Bool
   -- by address, before the instruction there, and by register, or by number of a word of the stack
   pub row : ℕ → ℕ → Option Trace
   pub word : ℕ → ℕ → Option Trace
-  -- by address: memory was accessed there since the header was last come to
+  -- by address: memory was accessed there since the header was last come to, and gave what is sought
   pub touched : ℕ → Bool
+  -- by address, before the instruction there: the register with what the load there gave since then
+  pub holder : ℕ → Option ℕ
   -- the code that runs while a call from the body is open
   pub quiet : ℕ → Bool
 
@@ -151,9 +166,36 @@ pub record IsAimed (v : Values) (c : WalkCertificate) (a : ℕ) (i : Instr) : Ty
   -- by the register's interval the address is in the place
   pub placed : Covers c.place (sum_with (held (v.at a) register) more)
 
--- so it did, or an instruction before it
-abbrev pub IsTouched : Values → WalkCertificate → ℕ → Instr → Type 0
-IsTouched v c a i = (c.touched a ≡ true) ⊎ IsAimed v c a i
+-- it is a load of the kind of what is sought, to the register
+pub record IsSearching (v : Values) (c : WalkCertificate) (a : ℕ) (i : Instr) (r : ℕ) : Type 0 where
+  pub aimed : IsAimed v c a i
+  pub register : IsRegister r
+  pub sought : Sought
+  pub sought_is : c.sought ≡ Some sought
+  pub rs1 : ℕ
+  pub offset : ℤ
+  pub loads : i ≡ Load sought.op r rs1 offset
+
+-- the register with what was loaded: none, the one that had it, or the one to which the instruction loads it
+pub data IsHolderOver (v : Values) (c : WalkCertificate) (a : ℕ) (i : Instr) (b : Option ℕ) : Type 0 where
+  unheld : b ≡ None → IsHolderOver v c a i b
+  kept : (r : ℕ) → b ≡ Some r → c.holder a ≡ Some r → keeps r i ≡ true → IsHolderOver v c a i b
+  searched : (r : ℕ) → b ≡ Some r → IsSearching v c a i r → IsHolderOver v c a i b
+
+-- what was loaded is sought: the instruction at a leaves the register that has it, whose interval on the way to b says so
+pub record IsFound (v : Values) (c : WalkCertificate) (a : ℕ) (i : Instr) (b : ℕ) : Type 0 where
+  pub register : ℕ
+  pub is_register : IsRegister register
+  pub holder : c.holder a ≡ Some register
+  pub left : keeps register i ≡ true
+  pub sought : Sought
+  pub sought_is : c.sought ≡ Some sought
+  pub covers : Covers (Some sought.wanted) (passed i a b (v.at a) register)
+
+-- On the way from the instruction at a to b: memory was accessed before it, or the instruction does it and nothing is sought, or what was
+-- loaded shows to be sought.
+abbrev pub IsTouched : Values → WalkCertificate → ℕ → Instr → ℕ → Type 0
+IsTouched v c a i b = (c.touched a ≡ true) ⊎ ((c.sought ≡ None) × IsAimed v c a i) ⊎ IsFound v c a i b
 
 -- ---- behind a call at a to a function
 
@@ -166,6 +208,10 @@ IsWordBack v w c a to k b = (b ≡ None) ⊎ (IsSafe v w a to k × IsWider b (c.
 abbrev pub IsPlaceBack : Text → Values → Stacks → WalkCertificate → (a to : ℕ) → Place → Option Trace → Type 0
 IsPlaceBack t v w c a to (in_register r) b = IsRegister r × IsRowBack t v w c a to r b
 IsPlaceBack t v w c a to (in_word k) b = IsWordBack v w c a to k b
+
+abbrev pub IsHolderBack : Text → Values → Stacks → WalkCertificate → (a to : ℕ) → Option ℕ → Type 0
+IsHolderBack t v w c a to b =
+    (b ≡ None) ⊎ ((r : ℕ) × IsRegister r × (b ≡ Some r) × (c.holder a ≡ Some r) × IsRestored t v w a to r)
 
 -- ---- a turn
 
@@ -182,14 +228,14 @@ IsMoved c None = ⊥
 IsMoved c (Some s) = (s.firsts ≡ c.first_factor) × (s.seconds ≡ c.second_factor) ×
     Covers (Some (arc c.least c.spread)) (steps_of c.down s.more)
 
--- a turn that the instruction at a ends, which is no call, and one that a call ends
-pub record IsTurnOver (v : Values) (w : Stacks) (c : WalkCertificate) (a : ℕ) (i : Instr) : Type 0 where
+-- a turn that the instruction at a ends, which is no call, on the way to the header, and one that a call ends
+pub record IsTurnOver (v : Values) (w : Stacks) (c : WalkCertificate) (a : ℕ) (i : Instr) (header : ℕ) : Type 0 where
   pub first : Option Trace
   pub second : Option Trace
   pub first_over : IsPlaceOver v w c a i c.first first
   pub second_over : IsPlaceOver v w c a i c.second second
   pub moved : IsMoved c (pointer c first second)
-  pub touched : IsTouched v c a i
+  pub touched : IsTouched v c a i header
 
 pub record IsTurnBack (t : Text) (v : Values) (w : Stacks) (c : WalkCertificate) (a to : ℕ) : Type 0 where
   pub first : Option Trace
@@ -211,10 +257,57 @@ IsOnGround ground place area = AreDisjoint place area ⊎
     ((j : ℕ) × (y : Arc) × (ground j ≡ Some y) × Covers (Some y) (meet_of place (Some area)))
 
 -- The ground holds what is in an area and in the place, and no step leads from one of its intervals to another one, or round to the same.
-pub record IsGround (areas : ℕ → Option Arc) (c : WalkCertificate) : Type 0 where
+pub record IsOfAreas (areas : ℕ → Option Arc) (c : WalkCertificate) : Type 0 where
   pub holds : (k : ℕ) (x : Arc) → areas k ≡ Some x → IsOnGround c.ground c.place x
-  pub short : (k : ℕ) (x : Arc) → c.ground k ≡ Some x → (x.more + c.least ≤ c.width) × (x.more + (c.least + c.spread) < 2 ^ 32)
   pub apart : (k j : ℕ) (x y : Arc) → c.ground k ≡ Some x → c.ground j ≡ Some y → (k ≡ j) ⊎ IsBeyond x y (c.least + c.spread)
+
+-- a step of the walk from one address to the other one, up or down
+abbrev pub IsStep : Bool → (was step now : ℕ) → Type 0
+IsStep true was step now = was ≡ (now + step) % 2 ^ 32
+IsStep false was step now = now ≡ (was + step) % 2 ^ 32
+
+-- A load at the address gives nothing that is sought, whatever memory has elsewhere than in fixed bytes. Where the address isn't a multiple of
+-- its width it traps.
+abbrev pub IsBarren : (fixed : ℕ → Option ℕ) → Option Sought → (at : ℕ) → Type 0
+IsBarren fixed None at = ⊥
+IsBarren fixed (Some s) at = at % load_width s.op ≡ 0 → (bytes : ℕ → ℕ) → AreFixedIn fixed bytes →
+    IsIn s.wanted (ops.loaded s.op bytes at) → ⊥
+
+-- The ground holds each address at which the first turn may access memory, but for those that are barren; and each step from one of its
+-- intervals stays in it, or leads to an address that is barren.
+pub record IsOfFixed (fixed : ℕ → Option ℕ) (c : WalkCertificate) : Type 0 where
+  pub begins : (at : ℕ) → IsHeld c.start at → IsHeld c.place at →
+      IsBarren fixed c.sought at ⊎ ((k : ℕ) × (x : Arc) × (c.ground k ≡ Some x) × IsIn x at)
+  pub goes_on : (k : ℕ) (x : Arc) (was step now : ℕ) → c.ground k ≡ Some x → IsIn x was → IsStep c.down was step now → c.least ≤ step →
+      step ≤ c.least + c.spread → now < 2 ^ 32 → IsHeld c.place now → IsBarren fixed c.sought now ⊎ IsIn x now
+
+-- no interval of the ground is wider than the width
+pub record IsGround (areas : ℕ → Option Arc) (fixed : ℕ → Option ℕ) (c : WalkCertificate) : Type 0 where
+  pub short : (k : ℕ) (x : Arc) → c.ground k ≡ Some x → (x.more + c.least ≤ c.width) × (x.more + (c.least + c.spread) < 2 ^ 32)
+  pub is : IsOfAreas areas c ⊎ IsOfFixed fixed c
+
+-- ---- where the loop is entered
+
+-- the interval of what is in a place behind the instruction at a, on the way to b
+pub data IsArcOver (v : Values) (w : Stacks) (a : ℕ) (i : Instr) (b : ℕ) (p : Place) (arc : Option Arc) : Type 0 where
+  register : (r : ℕ) → p ≡ in_register r → IsRegister r → arc ≡ passed i a b (v.at a) r → IsArcOver v w a i b p arc
+  missed : (k : ℕ) → p ≡ in_word k → IsMissed v w a i k → arc ≡ w.word a k → IsArcOver v w a i b p arc
+  stored : (k r : ℕ) → p ≡ in_word k → IsStoredFrom w a i k r → arc ≡ held (v.at a) r → IsArcOver v w a i b p arc
+
+-- the interval of the address of the access, by those of what is in both places
+abbrev pub aimed_in : WalkCertificate → Option Arc → Option Arc → Option Arc
+aimed_in c first second = sum_with (sum_of (scaled c.first_factor first) (scaled c.second_factor second)) c.at
+
+-- nothing is said of where the first turn accesses memory, or it is there by what is in the places
+pub record IsStartedBy (v : Values) (w : Stacks) (c : WalkCertificate) (a : ℕ) (i : Instr) (b : ℕ) : Type 0 where
+  pub first : Option Arc
+  pub second : Option Arc
+  pub first_over : IsArcOver v w a i b c.first first
+  pub second_over : IsArcOver v w a i b c.second second
+  pub covers : Covers c.start (aimed_in c first second)
+
+abbrev pub IsStarted : Values → Stacks → WalkCertificate → ℕ → Instr → ℕ → Type 0
+IsStarted v w c a i b = (c.start ≡ None) ⊎ IsStartedBy v w c a i b
 
 -- ---- a certificate
 
@@ -231,16 +324,23 @@ IsBegun c p b = (b ≡ None) ⊎ ((c.first ≡ p) × IsWider b (traced 1 0 (Some
 -- about two of one call.
 pub record IsWalkCertificate (t : Text) (g : Graph) (v : Values) (w : Stacks) (header : ℕ) (extent : ℕ → Bool) (c : WalkCertificate)
     : Type 0 where
-  pub ground : IsGround w.areas c
+  pub ground : IsGround w.areas w.fixed c
   -- the header is in the body, and begins it: nothing is known there but of both places
   pub first : c.body header ≡ true
   pub rows : (r : ℕ) → IsRegister r → IsBegun c (in_register r) (c.row header r)
   pub words : (k : ℕ) → IsBegun c (in_word k) (c.word header k)
   pub untouched : c.touched header ≡ false
+  pub unheld : c.holder header ≡ None
   -- the body is entered at its header alone, by edges, by calls and at the start of a run
   pub entered : (a b : ℕ) → Leads g a b → v.live a ≡ true → c.body b ≡ true → b ≢ header → c.body a ≡ true
   pub called : (a b : ℕ) → Calls g a b → v.live a ≡ true → c.body b ≡ true → b ≡ header
   pub entry : c.body t.entry ≡ true → t.entry ≡ header
+  -- where the first turn accesses memory is known only of loops that are entered by edges of instructions that are no calls
+  pub starts : (a : ℕ) (i : Instr) → Steps g a header → v.live a ≡ true → c.body a ≡ false → instr_at t a ≡ Some i →
+      IsPossible v a i header → IsStarted v w c a i header
+  pub starts_called : (a : ℕ) → Calls g a header → v.live a ≡ true → c.start ≡ None
+  pub starts_back : (a to : ℕ) → Calls g a to → Leads g a header → v.live a ≡ true → c.body a ≡ false → c.start ≡ None
+  pub starts_entry : t.entry ≡ header → c.start ≡ None
   -- what is counted as a turn comes from the body
   pub counts : (a : ℕ) → Leads g a header → v.live a ≡ true → extent a ≡ true → c.body a ≡ true
   -- within the body each instruction keeps the traces, where a state may come
@@ -249,7 +349,9 @@ pub record IsWalkCertificate (t : Text) (g : Graph) (v : Values) (w : Stacks) (h
   pub along_words : (a b k : ℕ) (i : Instr) → Steps g a b → v.live a ≡ true → c.body a ≡ true → c.body b ≡ true → b ≢ header →
       instr_at t a ≡ Some i → IsPossible v a i b → IsWordOver v w c a i k (c.word b k)
   pub along_touched : (a b : ℕ) (i : Instr) → Steps g a b → v.live a ≡ true → c.body a ≡ true → c.body b ≡ true → b ≢ header →
-      instr_at t a ≡ Some i → IsPossible v a i b → c.touched b ≡ true → IsTouched v c a i
+      instr_at t a ≡ Some i → IsPossible v a i b → c.touched b ≡ true → IsTouched v c a i b
+  pub along_holder : (a b : ℕ) (i : Instr) → Steps g a b → v.live a ≡ true → c.body a ≡ true → c.body b ≡ true → b ≢ header →
+      instr_at t a ≡ Some i → IsPossible v a i b → IsHolderOver v c a i (c.holder b)
   -- and so does each call
   pub back : (a to b r : ℕ) → Calls g a to → Leads g a b → v.live a ≡ true → c.body a ≡ true → c.body b ≡ true → b ≢ header →
       IsRegister r → IsRowBack t v w c a to r (c.row b r)
@@ -257,9 +359,11 @@ pub record IsWalkCertificate (t : Text) (g : Graph) (v : Values) (w : Stacks) (h
       IsWordBack v w c a to k (c.word b k)
   pub back_touched : (a to b : ℕ) → Calls g a to → Leads g a b → v.live a ≡ true → c.body a ≡ true → c.body b ≡ true → b ≢ header →
       c.touched b ≡ true → c.touched a ≡ true
+  pub back_holder : (a to b : ℕ) → Calls g a to → Leads g a b → v.live a ≡ true → c.body a ≡ true → c.body b ≡ true → b ≢ header →
+      IsHolderBack t v w c a to (c.holder b)
   -- each turn accesses memory where the pointer says, and moves the pointer on
   pub turns : (a : ℕ) (i : Instr) → Steps g a header → v.live a ≡ true → c.body a ≡ true → instr_at t a ≡ Some i →
-      IsPossible v a i header → IsTurnOver v w c a i
+      IsPossible v a i header → IsTurnOver v w c a i header
   pub turns_back : (a to : ℕ) → Calls g a to → Leads g a header → v.live a ≡ true → c.body a ≡ true → IsTurnBack t v w c a to
   -- calls from the body go to quiet code
   pub calls : (a b : ℕ) → Calls g a b → v.live a ≡ true → c.body a ≡ true → c.quiet b ≡ true

@@ -1,5 +1,5 @@
 -- What a table says of itself, and what is to show, case by case.
-use Rattle.std.proofs.Common.{◌≡◌, ℕ, ℤ, zero, suc, get_or, ◌<◌, ◌+◌, ◌≤◌, ◌%◌, ◌^◌, ◌⊎◌, inr, ⊎_elim, true, List, [], ◌∷◌, length, Option, Some, None, refl, sym, ap, ◌∙◌, subst, arith}
+use Rattle.std.proofs.Common.{◌≡◌, ℕ, ℤ, zero, suc, get_or, ◌<◌, ◌+◌, ◌≤◌, ◌%◌, ◌^◌, ◌⊎◌, inl, inr, ⊎_elim, Bool, true, List, [], ◌∷◌, length, Option, Some, None, refl, sym, ap, ◌∙◌, subst, arith}
 use Rattle.std.specs.Prelude.{◌==◌, option_map, slice_get, IfSome}
 use Rattle.std.specs.List.{All, find}
 use Rattle.std.proofs.lemmas.Bool.{cond_both, eqb-true}
@@ -11,28 +11,39 @@ use Rattle.scale_base.specs.declared.instruction.Instr.{Instr}
 use Rattle.scale_base.specs.declared.instruction.Instr.TheVariants.{Imm, Reg}
 use Rattle.scale_base.specs.Arith.{unsigned}
 use Rattle.bound_laws.specs.Registers.{keeps}
-use Rattle.bound_laws.specs.Values.{Arc, Covers, held, sum_with, IsRegister, Values}
+use Rattle.bound_laws.specs.Values.{Arc, IsIn, Covers, held, sum_with, IsRegister, Values}
 use Rattle.code_text.specs.Text.{Text}
 use Rattle.flow_graph.specs.FlowGraph.{graph}
 use Rattle.flow_graph.proofs.Laws.{less_same_more, some_is}
 use Rattle.stack_laws.specs.Stacks.{Stacks, IsLoadedTo, IsMissed, IsRestored, IsSafe, IsStoredFrom}
 use Rattle.stack_tables.specs.declared.claims.StackClaim.{StackClaim}
+use Rattle.stack_tables.specs.declared.tables.FixedPart.{FixedPart}
 use Rattle.value_checks.proofs.Laws.{once}
-use Rattle.stack_tables.specs.Tables.{address, stacks_in, text_in, values_in, IsStackClaim}
+use Rattle.stack_tables.specs.Tables.{address, fixed_in, stacks_in, text_in, values_in, IsStackClaim}
 use Rattle.stack_tables.proofs.Laws.{address_is}
-use Rattle.walk_areas.specs.Walking.{Place, Trace, WalkCertificate, aim, moved_by_number, multiplied, operand, pointer, sum_of_both, IsBegun, IsBeyond, IsGround, IsMoved, IsPlaceBack, IsPlaceOver, IsTurnBack, IsTurnOver, IsTouched, IsWider}
+use Rattle.walk_areas.specs.Walking.{Place, Trace, WalkCertificate, aim, aimed_in, moved_by_number, multiplied, operand, pointer, sum_of_both, Sought, IsBarren, IsBegun, IsBeyond, IsGround, IsMoved, IsOfAreas, IsOfFixed, IsStep, IsPlaceBack, IsPlaceOver, IsTurnBack, IsTurnOver, IsTouched, IsWider}
 use Rattle.walk_areas.specs.Walking.IsRowOver.{kept, summed, added, shifted, loaded}
 use Rattle.walk_areas.specs.Walking.IsWordOver.{missed, stored}
 use Rattle.walk_checks.specs.declared.tables.WordTrace.{WordTrace}
 use Rattle.walk_checks.specs.declared.tables.WalkTable.{WalkTable}
 use Rattle.walk_checks.specs.declared.tables.WalkCase.{WalkCase}
-use Rattle.walk_checks.specs.Walked.{cert, certificate_in, certificate_of, place_view, trace_view, word_in, AreWalks, IsApart, IsApartAt, IsEdgeWalked, IsGrounded, IsLiveSo, IsPlaceFound, IsPlaceFoundBack, IsPlaced, IsRowFound, IsRowFoundBack, IsShort, IsWalkCase, IsWordFound, IsWordFoundBack}
+use Rattle.walk_checks.specs.declared.tables.Sought as tables
+use Rattle.walk_checks.specs.Walked.{cert, certificate_in, certificate_of, place_view, sought_view, trace_view, word_in, AreWalks, IsApart, IsApartAt, IsEdgeWalked, IsEnding, IsGrounded, IsIdle, IsLiveSo, IsPlaceFound, IsPlaceFoundBack, IsPlaced, IsRowFound, IsRowFoundBack, IsSearched, IsShort, IsWalkCase, IsWordFound, IsWordFoundBack}
 use Rattle.walk_checks.proofs.Seen.{there}
 
 -- what holds of a value that is there follows from what else holds of it
 pub if_some : {A : Type 0} {P Q : A → Type 0} (o : Option A) → ((x : A) → P x → Q x) → IfSome o P → IfSome o Q
 if_some None f h = tt
 if_some (Some x) f h = f x h
+
+-- what holds of an interval, known or not, holds of one that is known
+pub if_known : (o : Option Arc) (P : Option Arc → Type 0) → P o → IfSome o (λ x. P (Some x))
+if_known None P h = tt
+if_known (Some x) P h = h
+
+-- and of that one
+pub of_known : (o : Option Arc) (x : Arc) (P : Arc → Type 0) → o ≡ Some x → IfSome o P → P x
+of_known o x P same h = subst (λ (y : Option Arc). IfSome y P) same h
 
 -- ---- what is found over an instruction, and behind a call
 
@@ -122,15 +133,59 @@ beyond_at x y z gap same h = subst (λ q. IsBeyond x q gap) (some_is y z same) h
 pub apart_at : (t : WalkTable) (k : ℕ) (y x : Arc) → Some y ≡ Some x → ((j : ℕ) → j < length t.ground.items → IsApartAt t k y j) → (j : ℕ) → j < length t.ground.items → IsApartAt t k x j
 apart_at t k y x same h = subst (λ q. (j : ℕ) → j < length t.ground.items → IsApartAt t k q j) (some_is y x same) h
 
-pub ground_in : (areas : ℕ → Option Arc) (t : WalkTable) (found : List Arc) → ((k : ℕ) → slice_get found k ≡ areas k) → All (λ (x : Arc). IsGrounded t x) found → All (λ (x : Arc). IsShort t x) t.ground.items →
-    ((k : ℕ) → k < length t.ground.items → IsApart t k) → (nodes : List ℕ) → IsGround areas (certificate_of nodes t)
-ground_in areas t found same held short apart nodes = record {
+pub of_areas_in : (areas : ℕ → Option Arc) (t : WalkTable) (found : List Arc) → ((k : ℕ) → slice_get found k ≡ areas k) → All (λ (x : Arc). IsGrounded t x) found →
+    ((k : ℕ) → k < length t.ground.items → IsApart t k) → (nodes : List ℕ) → IsOfAreas areas (certificate_of nodes t)
+of_areas_in areas t found same held apart nodes = record {
   holds = λ k x at. each_at (λ (y : Arc). IsGrounded t y) found k x (same k ∙ at) held;
-  short = λ k x at. each_at (λ (y : Arc). IsShort t y) t.ground.items k x at short;
   apart = λ k j x y at there. apart k (slice_get_within t.ground.items k x at) x at j (slice_get_within t.ground.items j y there) y there;
 }
 
+pub ground_in : (areas : ℕ → Option Arc) (fixed : ℕ → Option ℕ) (t : WalkTable) → All (λ (x : Arc). IsShort t x) t.ground.items →
+    ((nodes : List ℕ) → IsOfAreas areas (certificate_of nodes t) ⊎ IsOfFixed fixed (certificate_of nodes t)) → (nodes : List ℕ) → IsGround areas fixed (certificate_of nodes t)
+ground_in areas fixed t short of nodes = record {
+  short = λ k x at. each_at (λ (y : Arc). IsShort t y) t.ground.items k x at short;
+  is = of nodes;
+}
+
+-- what has no sought number by some fixed bytes has none by the same ones in other words
+idle_same : (f g : ℕ → Option ℕ) → ((at : ℕ) → f at ≡ g at) → (x : Sought) (at : ℕ) → IsBarren f (Some x) at → IsBarren g (Some x) at
+idle_same f g same x at none whole bytes are = none whole bytes (λ y byte is. are y byte (sym (same y) ∙ is))
+
+exact_step : (least spread step : ℕ) → spread ≡ 0 → least ≤ step → step ≤ least + spread → step ≡ least
+exact_step least spread step none low high = omega (arith, none, low, high)
+
+pub of_fixed_in : (fixed : ℕ → Option ℕ) (parts : List FixedPart) (t : WalkTable) → ((at : ℕ) → fixed_in parts at ≡ fixed at) → IsSearched parts t → (nodes : List ℕ) → IsOfFixed fixed (certificate_of nodes t)
+of_fixed_in fixed parts t same s nodes = record {
+  begins = λ at start place. ⊎_elim
+      (λ (none : IsIdle parts s.sought at). inl (idle at none))
+      (λ (q : (j : ℕ) × (y : Arc) × (slice_get t.ground.items j ≡ Some y) × IsIn y at). inr q) (s.begins at start place);
+  goes_on = λ k x was step now at inside steps low high word place. ⊎_elim
+      (λ (none : IsIdle parts s.sought now). inl (idle now none))
+      (λ (there : IsIn x now). inr there)
+      (each_at (λ (y : Arc). IsEnding parts s.sought t.least y) t.ground.items k x at s.ends was now inside
+      (subst (λ (n : ℕ). now ≡ (was + n) % 2 ^ 32) (exact_step t.least t.spread step s.exact low high) (subst (λ (d : Bool). IsStep d was step now) s.up steps)) word);
+}
+  where
+    sought_is : option_map sought_view t.sought ≡ Some (sought_view s.sought)
+    sought_is = ap (option_map sought_view) s.sought_is
+
+    idle : (at : ℕ) → IsIdle parts s.sought at → IsBarren fixed (option_map sought_view t.sought) at
+    idle at none = subst (λ (o : Option Sought). IsBarren fixed o at) (sym sought_is) (idle_same (fixed_in parts) fixed same (sought_view s.sought) at none)
+
 -- ---- turns
+
+-- the sought of a table
+pub sought_seen : (c : WalkCase) (o : Option tables.Sought) → c.table.now.sought ≡ o → (cert c).sought ≡ option_map sought_view o
+unfolding certificate_in
+sought_seen c o same = ap (option_map sought_view) same
+
+pub start_seen : (c : WalkCase) (o : Option Arc) → c.table.now.start ≡ o → (cert c).start ≡ o
+unfolding certificate_in
+start_seen c o same = same
+
+pub started_in : (c : WalkCase) (first second : Option Arc) → ((nodes : List ℕ) → Covers c.table.now.start (aimed_in (certificate_of nodes c.table.now) first second)) → Covers (cert c).start (aimed_in (cert c) first second)
+unfolding certificate_in
+started_in c first second h = h c.claim.now.graph.now.code.nodes
 
 pub aims_in : (c : WalkCase) (k r more : ℕ) (x y z : Option Trace) → ((nodes : List ℕ) → x ≡ aim (certificate_of nodes c.table.now)) → y ≡ operand (values_in c.claim.now) (cert c) (address c.claim.now k) r → z ≡ moved_by_number y more →
     IsWider x z → IsWider (aim (cert c)) (moved_by_number (operand (values_in c.claim.now) (cert c) (address c.claim.now k) r) more)
@@ -141,11 +196,11 @@ pub placed_in : (c : WalkCase) (k r more : ℕ) → IsPlaced c k r more → Cove
 unfolding certificate_in
 placed_in c k r more h = h
 
-pub turn_over_in : (c : WalkCase) (k : ℕ) (i : Instr) (x y : Option Trace) → IsPlaceFound (values_in c.claim.now) (stacks_in c.claim.now) (cert c) (address c.claim.now k) i (place_view c.table.now.first) x →
+pub turn_over_in : (c : WalkCase) (k n : ℕ) (i : Instr) (x y : Option Trace) → IsPlaceFound (values_in c.claim.now) (stacks_in c.claim.now) (cert c) (address c.claim.now k) i (place_view c.table.now.first) x →
     IsPlaceFound (values_in c.claim.now) (stacks_in c.claim.now) (cert c) (address c.claim.now k) i (place_view c.table.now.second) y → IsWider x x → IsWider y y →
-    ((nodes : List ℕ) → IsMoved (certificate_of nodes c.table.now) (pointer (certificate_of nodes c.table.now) x y)) → IsTouched (values_in c.claim.now) (cert c) (address c.claim.now k) i →
-    IsTurnOver (values_in c.claim.now) (stacks_in c.claim.now) (cert c) (address c.claim.now k) i
-turn_over_in c k i x y first second same other moved touched = record {
+    ((nodes : List ℕ) → IsMoved (certificate_of nodes c.table.now) (pointer (certificate_of nodes c.table.now) x y)) → IsTouched (values_in c.claim.now) (cert c) (address c.claim.now k) i (address c.claim.now n) →
+    IsTurnOver (values_in c.claim.now) (stacks_in c.claim.now) (cert c) (address c.claim.now k) i (address c.claim.now n)
+turn_over_in c k n i x y first second same other moved touched = record {
   first = x;
   second = y;
   first_over = subst (λ (p : Place). IsPlaceOver (values_in c.claim.now) (stacks_in c.claim.now) (cert c) (address c.claim.now k) i p x) (sym (first_seen c)) (first x same);

@@ -1,3 +1,4 @@
 mod Seen
 mod Cases
 mod Whole
+mod Endings

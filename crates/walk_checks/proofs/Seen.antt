@@ -1,5 +1,5 @@
 -- What a table of a walk says at an address is what stands at the number of its node.
-use Rattle.std.proofs.Common.{◌≡◌, ℕ, ◌<◌, false, List, [], length, Option, Some, sym, ap, ◌∙◌}
+use Rattle.std.proofs.Common.{◌≡◌, ℕ, ◌<◌, false, List, [], length, Option, Some, None, sym, ap, ◌∙◌}
 use Rattle.std.specs.Prelude.{slice_get, Vec}
 use Rattle.std.specs.declared.alloc.Global.{Global}
 use Rattle.std.proofs.lemmas.List.{length-map}
@@ -31,6 +31,10 @@ quiet_seen c is k lt = seen false c.claim.now is.claim c.table.now.quiet.items i
 pub touched_seen : (c : WalkCase) → IsWalkCase c → (k : ℕ) → k < length c.claim.now.graph.now.code.nodes → or_other false (slice_get c.table.now.touched.items k) ≡ (cert c).touched (address c.claim.now k)
 unfolding certificate_in
 touched_seen c is k lt = seen false c.claim.now is.claim c.table.now.touched.items is.sized.touched k lt
+
+pub holder_seen : (c : WalkCase) → IsWalkCase c → (k : ℕ) → k < length c.claim.now.graph.now.code.nodes → or_other None (slice_get c.table.now.holders.items k) ≡ (cert c).holder (address c.claim.now k)
+unfolding certificate_in
+holder_seen c is k lt = seen None c.claim.now is.claim c.table.now.holders.items is.sized.holders k lt
 
 rows_length : (rows : List (Vec (Option Trace) Global)) → length (rows_view rows) ≡ length rows
 rows_length rows = length-map rows (λ (row : Vec (Option Trace) Global). row.items)

@@ -1,6 +1,6 @@
 //! What the code says of a table of a walk, edge by edge.
 
-ghost use Rattle.std.specs.Prelude.{◌≡◌, ◌≢◌, ◌<◌, ℕ, None, Some, length, option_map, true};
+ghost use Rattle.std.specs.Prelude.{◌≡◌, ◌≢◌, ◌<◌, ◌⊎◌, ℕ, None, Some, false, length, option_map, true};
 ghost use Rattle.std.specs.List.{All};
 ghost use Rattle.bound_laws.specs.Values as values;
 ghost use Rattle.bound_laws.specs.Values.{IsRegister};
@@ -12,14 +12,15 @@ ghost use Rattle.stack_tables.specs.Tables.{stacks_in, text_in, values_in};
 ghost use Rattle.wrapped_intervals.specs.Small.{said_view};
 ghost use Rattle.walk_areas.specs.Walking as walking;
 ghost use Rattle.walk_checks.specs.declared.tables.WordTrace.{WordTrace};
-ghost use Rattle.walk_checks.specs.Walked.{at_of, cert, trace_view, AreBack, AreOver, IsBackSo, IsCalledSo, IsEdgeWalked, IsLedSo, IsLiveSo, IsSound, IsStep, IsStepSo, IsWalkCase};
+ghost use Rattle.walk_checks.specs.Walked.{at_of, cert, trace_view, AreBack, AreOver, IsBackSo, IsCalledSo, IsEdgeWalked, IsEntering, IsLedSo, IsLiveSo, IsSound, IsStartedFrom, IsStep, IsStepEntering, IsStepSo, IsWalkCase};
 
-use crate::backs::{is_row_back, is_word_back};
+use crate::backs::{is_holder_back, is_row_back, is_word_back};
 use crate::ends::{is_turn_back, is_turn_over};
 use crate::over::{is_row_over, is_word_over};
-use crate::rows::{is_body, is_quiet, is_touched, row_at, words_at};
+use crate::rows::{holder_at, is_body, is_quiet, is_touched, row_at, words_at};
+use crate::starts::{has_no_start, is_started_by};
 use crate::tables::{Call, Step, WalkCase, WordTrace};
-use crate::touching::is_touched_over;
+use crate::touching::{is_holder_over, is_touched_over};
 use loop_file::in_extent;
 use scale_base::Instr;
 use stack_tables::{address, arcs, instruction, is_live};
@@ -108,7 +109,10 @@ fn are_over(case: &WalkCase<'_>, i: Instr, k: usize, n: usize) -> bool
     if !are_words_over(case, step) {
         return false;
     }
-    !is_touched(case, n) || is_touched_over(case, i, k)
+    if !is_holder_over(case, i, k, holder_at(case, n)) {
+        return false;
+    }
+    !is_touched(case, n) || is_touched_over(case, step)
 }
 
 // A step within the body.
@@ -120,7 +124,14 @@ fn is_step_so(case: &WalkCase<'_>, i: Instr, k: usize, n: usize) -> bool
         case.now.note.now.header (at_of case.now k) i (at_of case.now n) }
 {
     if n == case.header {
-        return is_turn_over(case, i, k);
+        return is_turn_over(
+            case,
+            Step {
+                instr: i,
+                from: k,
+                to: n,
+            },
+        );
     }
     !is_body(case, n) || are_over(case, i, k, n)
 }
@@ -204,6 +215,9 @@ fn are_back(case: &WalkCase<'_>, call: Call, n: usize) -> bool
         return false;
     }
     if !are_words_back(case, call, n) {
+        return false;
+    }
+    if !is_holder_back(case, call, holder_at(case, n)) {
         return false;
     }
     !is_touched(case, n) || is_touched(case, call.from)
@@ -373,6 +387,147 @@ fn is_sound(case: &WalkCase<'_>, i: Instr, k: usize, e: usize) -> bool
     comes_back_so(case, i, k, e)
 }
 
+// Where the loop is entered by a step, and a state may come this way.
+fn is_started_or_never(case: &WalkCase<'_>, step: Step) -> bool
+    requires case { IsWalkCase case.now }
+    requires step { IsStep case.now step }
+    ensures { result ≡ true → walking.IsPossible (values_in case.now.claim.now) (at_of case.now step.from) step.instr
+        (at_of case.now step.to) → walking.IsStartedBy (values_in case.now.claim.now) (stacks_in case.now.claim.now) (cert case.now)
+        (at_of case.now step.from) step.instr (at_of case.now step.to) }
+{
+    is_never(case, step) || is_started_by(case, step)
+}
+
+// The same of the instruction of node k.
+fn is_started_from(case: &WalkCase<'_>, k: usize, n: usize) -> bool
+    requires case { IsWalkCase case.now }
+    requires from { k < length case.now.claim.now.graph.now.code.nodes }
+    requires to { n < length case.now.claim.now.graph.now.code.nodes }
+    ensures { result ≡ true → IsStartedFrom case.now (at_of case.now k) (at_of case.now n) }
+{
+    match instruction(case.claim, k) {
+        Some(i) => is_started_or_never(
+            case,
+            Step {
+                instr: i,
+                from: k,
+                to: n,
+            },
+        ),
+        None => false,
+    }
+}
+
+// Where a step leads, if it enters the loop.
+fn is_step_entering(case: &WalkCase<'_>, k: usize, n: usize) -> bool
+    requires case { IsWalkCase case.now }
+    requires from { k < length case.now.claim.now.graph.now.code.nodes }
+    requires to { n < length case.now.claim.now.graph.now.code.nodes }
+    ensures { result ≡ true → IsStepEntering case.now (at_of case.now k) (at_of case.now n) }
+{
+    if n != case.header {
+        return true;
+    }
+    if is_body(case, k) {
+        return true;
+    }
+    is_started_from(case, k, n)
+}
+
+// Whether node n isn't the header, where a call comes back to it from elsewhere than the body.
+fn is_back_elsewhere(case: &WalkCase<'_>, k: usize, n: usize) -> bool
+    requires case { IsWalkCase case.now }
+    requires from { k < length case.now.claim.now.graph.now.code.nodes }
+    requires to { n < length case.now.claim.now.graph.now.code.nodes }
+    ensures { result ≡ true → (cert case.now).body (at_of case.now k) ≡ false → at_of case.now n ≢ case.now.note.now.header }
+{
+    if n != case.header {
+        return true;
+    }
+    is_body(case, k)
+}
+
+// Whether node n isn't the header.
+fn is_elsewhere(case: &WalkCase<'_>, n: usize) -> bool
+    requires case { IsWalkCase case.now }
+    requires node { n < length case.now.claim.now.graph.now.code.nodes }
+    ensures { result ≡ true → at_of case.now n ≢ case.now.note.now.header }
+{
+    if n == case.header {
+        return false;
+    }
+    true
+}
+
+// What an edge calls, if the first access is known.
+fn is_call_elsewhere(case: &WalkCase<'_>, e: usize) -> bool
+    requires case { IsWalkCase case.now }
+    requires edge { e < length case.now.claim.now.graph.now.code.edges }
+    ensures { result ≡ true → (f : ℕ) → (graph case.now.claim.now.graph.now).callee e ≡ Some f →
+        (graph case.now.claim.now.graph.now).entry f ≢ case.now.note.now.header }
+{
+    match case.claim.graph.callee(e) {
+        Some(f) => is_elsewhere(case, case.claim.graph.entry_node(f)),
+        None => true,
+    }
+}
+
+// Where a call comes back to.
+fn comes_back_elsewhere(case: &WalkCase<'_>, k: usize, e: usize) -> bool
+    requires case { IsWalkCase case.now }
+    requires node { k < length case.now.claim.now.graph.now.code.nodes }
+    requires edge { e < length case.now.claim.now.graph.now.code.edges }
+    ensures { result ≡ true → (f b : ℕ) → (graph case.now.claim.now.graph.now).callee e ≡ Some f
+        → (graph case.now.claim.now.graph.now).target e ≡ Some b → (cert case.now).body (at_of case.now k) ≡ false →
+        b ≢ case.now.note.now.header }
+{
+    match (case.claim.graph.callee(e), case.claim.graph.target(e)) {
+        (Some(_), Some(n)) => is_back_elsewhere(case, k, n),
+        _ => true,
+    }
+}
+
+// Where a step leads.
+fn steps_enter(case: &WalkCase<'_>, k: usize, e: usize) -> bool
+    requires case { IsWalkCase case.now }
+    requires node { k < length case.now.claim.now.graph.now.code.nodes }
+    requires edge { e < length case.now.claim.now.graph.now.code.edges }
+    ensures { result ≡ true → (b : ℕ) → (graph case.now.claim.now.graph.now).callee e ≡ None
+        → (graph case.now.claim.now.graph.now).target e ≡ Some b → IsStepEntering case.now (at_of case.now k) b }
+{
+    match (case.claim.graph.callee(e), case.claim.graph.target(e)) {
+        (None, Some(n)) => is_step_entering(case, k, n),
+        _ => true,
+    }
+}
+
+// All of them.
+fn is_entering(case: &WalkCase<'_>, k: usize, e: usize) -> bool
+    requires case { IsWalkCase case.now }
+    requires node { k < length case.now.claim.now.graph.now.code.nodes }
+    requires edge { e < length case.now.claim.now.graph.now.code.edges }
+    ensures { result ≡ true → IsEntering case.now (graph case.now.claim.now.graph.now) (at_of case.now k) e }
+{
+    if !is_call_elsewhere(case, e) {
+        return false;
+    }
+    if !comes_back_elsewhere(case, k, e) {
+        return false;
+    }
+    steps_enter(case, k, e)
+}
+
+// The same, where the first access is known.
+fn begins_so(case: &WalkCase<'_>, k: usize, e: usize) -> bool
+    requires case { IsWalkCase case.now }
+    requires node { k < length case.now.claim.now.graph.now.code.nodes }
+    requires edge { e < length case.now.claim.now.graph.now.code.edges }
+    ensures { result ≡ true → ((cert case.now).start ≡ None) ⊎
+        IsEntering case.now (graph case.now.claim.now.graph.now) (at_of case.now k) e }
+{
+    has_no_start(case) || is_entering(case, k, e)
+}
+
 // Both, within the body.
 fn is_sound_or_outside(case: &WalkCase<'_>, k: usize, e: usize) -> bool
     requires case { IsWalkCase case.now }
@@ -403,6 +558,9 @@ fn is_live_so(case: &WalkCase<'_>, k: usize, e: usize) -> bool
         return false;
     }
     if !calls_so(case, k, e) {
+        return false;
+    }
+    if !begins_so(case, k, e) {
         return false;
     }
     is_sound_or_outside(case, k, e)

@@ -1,28 +1,21 @@
 //! What ends a turn.
 
 ghost use Rattle.std.specs.Prelude.{◌≡◌, ◌<◌, ℕ, List, Some, length, true, IfSome};
-ghost use Rattle.bound_laws.specs.Values.{IsRegister};
 ghost use Rattle.code_text.specs.Text as text;
 ghost use Rattle.stack_tables.specs.Tables.{stacks_in, text_in, values_in};
 ghost use Rattle.wrapped_intervals.specs.Small.{IsFoundOr, IsKeptOr};
 ghost use Rattle.walk_areas.specs.Walking as walking;
-ghost use Rattle.walk_checks.specs.Walked.{at_of, cert, certificate_of, found_view, place_view, IsPlaceFound, IsPlaceFoundBack, IsWalkCase};
+ghost use Rattle.walk_checks.specs.Walked.{at_of, cert, certificate_of, found_view, place_view, IsPlaceFound, IsPlaceFoundBack, IsStep, IsWalkCase};
 
 use crate::backs::{row_back, word_back};
 use crate::over::{row_over, word_over};
 use crate::rows::is_touched;
-use crate::tables::{Call, WalkCase, WalkPlace, WalkTable};
+use crate::starts::is_register;
+use crate::tables::{Call, Step, WalkCase, WalkPlace, WalkTable};
 use crate::touching::is_touched_over;
 use crate::traces::{Found, is_wider, multiplied, sum_of_both};
 use scale_base::Instr;
 use wrapped_intervals::{Arc, covers, negated, word};
-
-// Whether a register is one of x1 to x31.
-fn is_register(r: u8) -> bool
-    ensures { result ≡ true → IsRegister r }
-{
-    0 < r && r < 32
-}
 
 // The trace of what stands in a place behind the instruction of node k.
 fn place_over(case: &WalkCase<'_>, i: Instr, k: usize, place: WalkPlace) -> Option<Found>
@@ -131,23 +124,23 @@ fn is_pointer_moved(table: &WalkTable, first: &Found, second: &Found) -> bool
     }
 }
 
-/// Whether the instruction of node k ends a turn as the table says.
-pub fn is_turn_over(case: &WalkCase<'_>, i: Instr, k: usize) -> bool
+/// Whether a step to the header ends a turn as the table says.
+pub fn is_turn_over(case: &WalkCase<'_>, step: Step) -> bool
     requires case { IsWalkCase case.now }
-    requires from { k < length case.now.claim.now.graph.now.code.nodes }
+    requires step { IsStep case.now step }
     ensures { result ≡ true → walking.IsTurnOver (values_in case.now.claim.now) (stacks_in case.now.claim.now) (cert case.now)
-        (at_of case.now k) i }
+        (at_of case.now step.from) step.instr (at_of case.now step.to) }
 {
     let table = case.table;
     match (
-        place_over(case, i, k, table.first),
-        place_over(case, i, k, table.second),
+        place_over(case, step.instr, step.from, table.first),
+        place_over(case, step.instr, step.from, table.second),
     ) {
         (Some(first), Some(second)) => {
             if !is_pointer_moved(table, &first, &second) {
                 return false;
             }
-            is_touched_over(case, i, k)
+            is_touched_over(case, step)
         }
         _ => false,
     }

@@ -9,8 +9,9 @@ ghost use Rattle.wrapped_intervals.specs.Small.{IsFound, IsKept, IsKeptOr};
 ghost use Rattle.walk_areas.specs.Walking as walking;
 ghost use Rattle.walk_checks.specs.Walked.{certificate_of, IsApart, IsApartAt, IsGrounded, IsHeldBy, IsShort};
 
+use crate::searching::is_searched;
 use crate::tables::{MOST_GROUND, WalkTable};
-use stack_tables::{StackClaim, areas};
+use stack_tables::{StackClaim, areas, fixed_parts};
 use wrapped_intervals::{Arc, ahead, covers, is_kept, meet_of};
 
 // How many words there are.
@@ -193,18 +194,13 @@ fn are_apart(table: &WalkTable) -> bool
     true
 }
 
-/// Whether the intervals of a table are the ground of its walk. More than 16 are refused.
-pub fn is_ground(claim: &StackClaim<'_>, table: &WalkTable) -> bool
-    requires { IsStackClaim claim.now }
-    ensures { result ≡ true → (nodes : List ℕ) → walking.IsGround (stacks_in claim.now).areas (certificate_of nodes table.now) }
+// Whether the intervals hold what is in areas and in the place. More than 16 are refused.
+fn is_of_areas(claim: &StackClaim<'_>, table: &WalkTable) -> bool
+    requires claim { IsStackClaim claim.now }
+    requires intervals { All IsKept table.now.ground.items }
+    ensures { result ≡ true → (nodes : List ℕ) → walking.IsOfAreas (stacks_in claim.now).areas (certificate_of nodes table.now) }
 {
     if table.ground.len() > MOST_GROUND {
-        return false;
-    }
-    if !are_kept(&table.ground) {
-        return false;
-    }
-    if !are_within(table, &table.ground) {
         return false;
     }
     if !is_kept(table.place) {
@@ -214,4 +210,31 @@ pub fn is_ground(claim: &StackClaim<'_>, table: &WalkTable) -> bool
         return false;
     }
     are_apart(table)
+}
+
+// Whether they hold all that is accessed of fixed bytes.
+fn is_of_fixed(claim: &StackClaim<'_>, table: &WalkTable) -> bool
+    requires claim { IsStackClaim claim.now }
+    requires intervals { All IsKept table.now.ground.items }
+    ensures { result ≡ true → (nodes : List ℕ) → walking.IsOfFixed (stacks_in claim.now).fixed (certificate_of nodes table.now) }
+{
+    is_searched(table, fixed_parts(claim))
+}
+
+/// Whether the intervals of a table are the ground of its walk: of fixed bytes, where something is sought. Of areas more than 16 are refused.
+pub fn is_ground(claim: &StackClaim<'_>, table: &WalkTable) -> bool
+    requires { IsStackClaim claim.now }
+    ensures { result ≡ true → (nodes : List ℕ) → walking.IsGround (stacks_in claim.now).areas (stacks_in claim.now).fixed
+        (certificate_of nodes table.now) }
+{
+    if !are_kept(&table.ground) {
+        return false;
+    }
+    if !are_within(table, &table.ground) {
+        return false;
+    }
+    if table.sought.is_some() {
+        return is_of_fixed(claim, table);
+    }
+    is_of_areas(claim, table)
 }

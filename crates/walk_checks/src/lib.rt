@@ -7,10 +7,14 @@ mod ends;
 mod ground;
 mod over;
 mod rows;
+mod searching;
 mod shown;
+mod starts;
 mod tables;
 mod touching;
 mod traces;
 
 pub use shown::is_walk_shown;
-pub use tables::{MOST_GROUND, Trace, WalkCase, WalkPlace, WalkTable, WordTrace};
+pub use tables::{
+    MOST_GROUND, MOST_STARTS, Sought, Trace, WalkCase, WalkPlace, WalkTable, WordTrace,
+};

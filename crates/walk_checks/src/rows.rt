@@ -1,6 +1,6 @@
 //! What stands at a node in a table of a walk.
 
-ghost use Rattle.std.specs.Prelude.{◌≡◌, ◌<◌, ℕ, [], false, length, slice_get, IfSome};
+ghost use Rattle.std.specs.Prelude.{◌≡◌, ◌<◌, ℕ, [], None, false, length, true, slice_get, IfSome};
 ghost use Rattle.value_checks.specs.Tables.{or_other};
 ghost use Rattle.stack_tables.specs.Tables.{values_in};
 ghost use Rattle.wrapped_intervals.specs.Small.{IsKeptOr};
@@ -35,6 +35,14 @@ fn touched_row(table: &WalkTable, k: usize) -> bool
     table.touched[k]
 }
 
+// Of the registers with what was loaded.
+fn holder_row(table: &WalkTable, k: usize) -> Option<u8>
+    requires { k < length table.now.holders.items }
+    ensures { result ≡ or_other None (slice_get table.now.holders.items k) }
+{
+    table.holders[k]
+}
+
 /// Whether node k is code of the loop.
 pub fn is_body(case: &WalkCase<'_>, k: usize) -> bool
     requires case { IsWalkCase case.now }
@@ -60,6 +68,27 @@ pub fn is_touched(case: &WalkCase<'_>, k: usize) -> bool
     ensures { result ≡ (cert case.now).touched (at_of case.now k) }
 {
     touched_row(case.table, k)
+}
+
+/// The register with what was loaded.
+pub fn holder_at(case: &WalkCase<'_>, k: usize) -> Option<u8>
+    requires case { IsWalkCase case.now }
+    requires node { k < length case.now.claim.now.graph.now.code.nodes }
+    ensures { result ≡ (cert case.now).holder (at_of case.now k) }
+{
+    holder_row(case.table, k)
+}
+
+/// Whether no register has it.
+pub fn is_unheld(case: &WalkCase<'_>, k: usize) -> bool
+    requires case { IsWalkCase case.now }
+    requires node { k < length case.now.claim.now.graph.now.code.nodes }
+    ensures { result ≡ true → (cert case.now).holder (at_of case.now k) ≡ None }
+{
+    match holder_at(case, k) {
+        Some(_) => false,
+        None => true,
+    }
 }
 
 // What stands in a row, and nothing behind its last one.

@@ -1,6 +1,6 @@
 //! Bounds that the code shows by a walk through memory.
 
-ghost use Rattle.std.specs.Prelude.{◌≡◌, ◌≤◌, ◌<◌, ◌/◌, ℕ, List, Some, true};
+ghost use Rattle.std.specs.Prelude.{◌≡◌, ◌≤◌, ◌<◌, ◌/◌, ℕ, List, None, Some, length, true};
 ghost use Rattle.std.specs.List.{All};
 ghost use Rattle.bound_laws.specs.Values as values;
 ghost use Rattle.bound_laws.specs.Values.{IsRegister};
@@ -18,7 +18,8 @@ ghost use Rattle.walk_checks.specs.Walked.{at_of, cert, certificate_of, found_vi
 
 use crate::edges::is_edge_walked;
 use crate::ground::is_ground;
-use crate::rows::{is_body, is_quiet, is_touched, row_at, words_at};
+use crate::rows::{is_body, is_quiet, is_touched, is_unheld, row_at, words_at};
+use crate::starts::has_no_start;
 use crate::tables::{Trace, WalkCase, WalkPlace, WalkTable, WordTrace};
 use crate::traces::{Found, is_wider_trace};
 use flow_graph::CodeGraph;
@@ -35,6 +36,7 @@ fn has_entries(graph: &CodeGraph, table: &WalkTable) -> bool
         && table.rows.len() == nodes
         && table.words.len() == nodes
         && table.touched.len() == nodes
+        && table.holders.len() == nodes
         && table.quiet.len() == nodes
 }
 
@@ -153,7 +155,23 @@ fn is_header_so(case: &WalkCase<'_>) -> bool
     if is_touched(case, case.header) {
         return false;
     }
+    if !is_unheld(case, case.header) {
+        return false;
+    }
     !is_quiet(case, case.header)
+}
+
+// What it says of the start of a run, at node k.
+fn is_entry_at(case: &WalkCase<'_>, k: usize) -> bool
+    requires case { IsWalkCase case.now }
+    requires node { k < length case.now.claim.now.graph.now.code.nodes }
+    ensures begins { result ≡ true → (cert case.now).body (at_of case.now k) ≡ true → k ≡ case.now.header }
+    ensures unknown { result ≡ true → k ≡ case.now.header → (cert case.now).start ≡ None }
+{
+    if k == case.header {
+        return has_no_start(case);
+    }
+    !is_body(case, k)
 }
 
 // What it says of the start of a run.
@@ -162,7 +180,7 @@ fn is_entry_so(case: &WalkCase<'_>) -> bool
     ensures { result ≡ true → IsEntrySo case.now }
 {
     match case.claim.graph.find(case.claim.view.entry()) {
-        Some(k) => !is_body(case, k) || k == case.header,
+        Some(k) => is_entry_at(case, k),
         None => false,
     }
 }

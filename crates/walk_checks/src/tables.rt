@@ -1,12 +1,15 @@
 //! What each turn of a loop makes of a pointer that walks through memory, as a table.
 
 use loop_file::LoopNote;
-use scale_base::Instr;
+use scale_base::{Instr, LoadOp};
 use stack_tables::StackClaim;
 use wrapped_intervals::Arc;
 
-/// How many intervals the ground of a walk has at most.
+/// How many intervals the ground of a walk through areas has at most.
 pub const MOST_GROUND: usize = 16;
+
+/// How many addresses there are at most at which the first turn of a walk over fixed bytes may access memory.
+pub const MOST_STARTS: u64 = 65_536;
 
 /// A value by the two numbers that stood in the two places when the header was last come to: so many times each, and a number of the
 /// interval more, modulo 2^32.
@@ -31,6 +34,13 @@ pub struct WordTrace {
     pub trace: Trace,
 }
 
+/// What is looked for: what loads of this kind give, as far as it is in the interval.
+#[derive(Clone, Copy)]
+pub struct Sought {
+    pub op: LoadOp,
+    pub wanted: Arc,
+}
+
 /// Why a loop can't turn often: each turn accesses memory where a pointer points, and moves it on, by so many bytes at least. The pointer is
 /// so many times what stands in the first place and so many times what stands in the second one; with one place alone, the second is the
 /// same with the factor 0.
@@ -52,7 +62,12 @@ pub struct WalkTable {
     pub width: u32,
     /// The interval of the addresses that are accessed, where one is known.
     pub place: Option<Arc>,
-    /// Intervals of addresses that hold all that may be accessed there, each farther from the others than a step.
+    /// That of the addresses that the first turn accesses.
+    pub start: Option<Arc>,
+    /// Where something is sought: each access is a load of that kind, and the turn goes on only if it gives what is sought.
+    pub sought: Option<Sought>,
+    /// Intervals of addresses that hold all that may be accessed there, each farther from the others than a step; where something is sought,
+    /// those of its walks over fixed bytes.
     pub ground: Vec<Arc>,
     /// By node: whether it is code of the loop.
     pub body: Vec<bool>,
@@ -60,8 +75,10 @@ pub struct WalkTable {
     pub rows: Vec<Vec<Option<Trace>>>,
     /// By node, what is known of words of the stack, each one once.
     pub words: Vec<Vec<WordTrace>>,
-    /// By node: whether memory was accessed there since the header was last come to.
+    /// By node: whether memory was accessed there since the header was last come to, and gave what is sought.
     pub touched: Vec<bool>,
+    /// By node: the register with what the load there gave since then.
+    pub holders: Vec<Option<u8>>,
     /// By node: whether it may run while a call from the loop is open.
     pub quiet: Vec<bool>,
 }

@@ -1,11 +1,15 @@
-use Rattle.std.proofs.Common.{◌∙◌, refl, sym}
+use Rattle.std.proofs.Common.{◌∙◌, refl, subst, sym}
 use Rattle.std.proofs.lemmas.Bool.{both_ways, not-true}
+use Rattle.stack_tables.specs.Tables.{stacks_in, text_in, values_in}
+use Rattle.walk_areas.specs.Walking.{IsHolderBack}
+use Rattle.walk_checks.specs.Walked.{at_of, cert}
 use Rattle.walk_checks.proofs.edges.are_back.Goals as goal
 
 pub returns-then-not-is_touched : goal.returns-then-not-is_touched
 returns-then-not-is_touched c so = record {
   rows = c.if-not-are_rows_back.ensures refl;
   words = c.if-not-are_words_back.ensures refl;
+  holder = subst (IsHolderBack (text_in c.args.case.now.claim.now) (values_in c.args.case.now.claim.now) (stacks_in c.args.case.now.claim.now) (cert c.args.case.now) (at_of c.args.case.now c.args.call.from) (at_of c.args.case.now c.args.call.entry)) c.holder_at.ensures (c.if-not-is_holder_back.ensures refl);
   touched = λ on. absurd (both_ways c.is_touched.result (not-true c.is_touched.result so) (c.is_touched.ensures ∙ on));
 }
 
@@ -13,5 +17,6 @@ pub returns-else-not-is_touched : goal.returns-else-not-is_touched
 returns-else-not-is_touched c so = record {
   rows = c.if-not-are_rows_back.ensures refl;
   words = c.if-not-are_words_back.ensures refl;
+  holder = subst (IsHolderBack (text_in c.args.case.now.claim.now) (values_in c.args.case.now.claim.now) (stacks_in c.args.case.now.claim.now) (cert c.args.case.now) (at_of c.args.case.now c.args.call.from) (at_of c.args.case.now c.args.call.entry)) c.holder_at.ensures (c.if-not-is_holder_back.ensures refl);
   touched = λ _. sym c.is_touched-else-not-is_touched.ensures ∙ so;
 }

@@ -8,5 +8,6 @@ returns c so = record {
   rows = c.if-not-are_rows_begun.ensures refl;
   words = c.if-not-are_words_begun.ensures refl;
   untouched = sym c.is_touched.ensures ∙ c.if-is_touched.false;
+  unheld = c.if-not-is_unheld.ensures refl;
   quiet = sym c.is_quiet.ensures ∙ not-true c.is_quiet.result so;
 }
