@@ -1,4 +1,4 @@
-use Rattle.std.proofs.Common.{ℕ, ◌<◌, ◌+◌, ◌*◌, ◌%◌, ◌^◌, refl, subst, arith, below_more}
+use Rattle.std.proofs.Common.{ℕ, ◌+◌, ◌*◌, ◌%◌, ◌^◌, refl, subst, arith, below_more}
 use Rattle.stack_tables.proofs.Laws.{each_number}
 use Rattle.walk_checks.specs.Walked.{IsBegunAt}
 use Rattle.walk_checks.proofs.searching.are_begun.Goals as goal

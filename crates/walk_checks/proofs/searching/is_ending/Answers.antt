@@ -1,4 +1,4 @@
-use Rattle.std.proofs.Common.{◌≡◌, ◌+◌, ◌*◌, ◌/◌, ◌%◌, ◌^◌, ℕ, arith, subst}
+use Rattle.std.proofs.Common.{◌≡◌, ◌+◌, ◌/◌, ◌%◌, ◌^◌, arith, subst}
 use Rattle.walk_checks.specs.Walked.{IsIdle}
 use Rattle.walk_checks.proofs.Endings.{ending_in, whole_multiple}
 use Rattle.walk_checks.proofs.searching.is_ending.Goals as goal
