@@ -50,6 +50,13 @@ fn is_disjoint(i: Arc, area: Arc) -> bool
     i.more() < distance && distance + area.more() < WORDS
 }
 
+// Whether a part of an interval that begins so far behind its first number has none but numbers of a stride. A part may be a whole area.
+fn is_on(stride: u64, first: u64, part: Arc) -> bool
+    requires { 0 < stride }
+{
+    first % stride == 0 && (part.more() == 0 || part.stride() % stride == 0)
+}
+
 // From the first number of two parts of an interval to the last one, in its order, with its stride where both are on it.
 fn both_along(i: Arc, one: Arc, other: Arc) -> Arc
     requires i { IsKept i }
@@ -58,7 +65,7 @@ fn both_along(i: Arc, one: Arc, other: Arc) -> Arc
 {
     let (first, second) = (ahead(i.low(), one.low()), ahead(i.low(), other.low()));
     let stride = i.stride().max(1);
-    let is_strided = first % stride == 0 && second % stride == 0;
+    let is_strided = is_on(stride, first, one) && is_on(stride, second, other);
     let begin = first.min(second);
     let end = (first + one.more()).max(second + other.more());
     Arc::strided(
