@@ -184,10 +184,9 @@ fn search_by(
     aim: Value,
     op: LoadOp,
 ) -> Result<Option<Found>, NoMemory> {
-    let sought = Some(not_zero(op));
     let aimed = Look {
         aim: Some(aim),
-        sought,
+        sought: Some(not_zero(op)),
         ..*look
     };
     let Some(walk) = walk_of(alloc, &aimed, &begun_of(&aim))? else {
@@ -205,13 +204,14 @@ fn search_by(
     let Some(start) = start_of(look.scope, look.words, &aim) else {
         return Ok(None);
     };
-    match runs_of(alloc, look.scope.fixed(), op, &start, way.least)? {
+    let ground = runs_of(alloc, look.scope.fixed(), op, &start, way.least)?;
+    match ground {
         Some(ground) => Ok(Some(Found {
             aim,
             way,
             walk,
             start: Some(start),
-            sought,
+            sought: Some(not_zero(op)),
             width: ground.longest.saturating_add(way.least),
             ground,
         })),
