@@ -8,7 +8,7 @@ Loops of 32 words stand one behind the other in one function, 4,095 of them in t
 - up: each counts a register up to what another one holds, beside a pointer and a sum;
 - words: each counts a word of the stack up, and 48 words take turns, so that all of them are known at each node.
 
-Seconds are those of the processor. The memory should double with the size.
+Seconds are those of the processor. The memory should double with the size, but that of words, which has a limit of some 500 MB at each size.
 """
 
 import argparse
