@@ -52,6 +52,14 @@ fn front_len(instr: Instr) -> u32 {
     }
 }
 
+// The ways out of the copy with a number to an address lead to a place.
+fn lead_copy(copies: &mut [Copies<'_>], i: usize, at: u32, to: u32) -> Result<(), NoMemory> {
+    if i < copies.len() {
+        copies[i].lead(at, to)?;
+    }
+    Ok(())
+}
+
 impl<'a> Layout<'a> {
     fn new(alloc: Global, code: &'a Code<'a>) -> Layout<'a> {
         Layout {
@@ -105,10 +113,8 @@ impl<'a> Layout<'a> {
 
     // The ways out of a copy to such entries lead to their copies.
     fn lead_on(&mut self, i: usize) -> Result<(), NoMemory> {
-        if i < self.copies.len() {
-            for (at, to) in &self.places {
-                self.copies[i].lead(*at, *to)?;
-            }
+        for (at, to) in &self.places {
+            lead_copy(&mut self.copies, i, *at, *to)?;
         }
         Ok(())
     }
@@ -252,7 +258,7 @@ pub fn find_split(
     let code = Code::new(alloc, view, graph, None)?;
     let functions = Functions::of(alloc, &code)?;
     let choices = choices_of(alloc, &code, &functions, headers, parts)?;
-    let few = within_limit(&choices);
+    let few = within_limit(&choices).min(choices.len());
     if let Some(split) = split_by(alloc, &code, &choices[..few])? {
         return Ok(Some(split));
     }
