@@ -248,10 +248,10 @@ fn within_limit(choices: &[Choice]) -> usize {
 /// The pieces and sites that make loops of parts of the code that turn and are entered at several places, by the addresses at which each is entered, and by
 /// those of the headers of all loops. So many parts are split as can be, at most 16 entries of one and 64 of all; where they can't be split together, one is. None
 /// where none can be. The pieces and sites fit the image. A part that shows within another one only when that is split isn't looked for.
-pub fn find_split(
+pub fn find_split<'x>(
     alloc: Global,
-    view: &ImageView<'_>,
-    graph: &CodeGraph,
+    view: &'x ImageView<'_>,
+    graph: &'x CodeGraph,
     headers: &[u32],
     parts: &[Vec<u32>],
 ) -> Result<Option<Split>, NoMemory> {
