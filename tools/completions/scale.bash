@@ -13,7 +13,7 @@ _scale_words() {
     "scale lower") echo "IMAGE JUMPS OUT" ;;
     "scale survey") echo "IMAGE SCALED MACHINE LOOPS INPUT .." ;;
     "scale tune") echo "IMAGE MACHINE LOOPS OUT INPUT .." ;;
-    pace) echo "fit show loops explain draw jumps all" ;;
+    pace) echo "fit show loops explain draw jumps split all" ;;
     "pace fit") echo "IMAGE MACHINE LOOPS OUT INPUT .." ;;
     "pace show") echo "IMAGE MACHINE LOOPS" ;;
     "pace loops") echo "IMAGE OUT INPUT .." ;;
@@ -22,6 +22,7 @@ _scale_words() {
     "pace draw run") echo "MACHINE OUT IMAGE INPUT .." ;;
     "pace draw plan") echo "IMAGE MACHINE LOOPS OUT" ;;
     "pace jumps") echo "IMAGE OUT" ;;
+    "pace split") echo "IMAGE OUT" ;;
     "pace all") echo "IMAGE MACHINE OUT INPUT .." ;;
     esac
 }

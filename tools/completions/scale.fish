@@ -26,7 +26,7 @@ function __scale_next
             set words IMAGE JUMPS OUT
         case "scale survey"
             set words IMAGE SCALED MACHINE LOOPS INPUT ..
-        case "pace jumps"
+        case "pace jumps" "pace split"
             set words IMAGE OUT
         case "pace all"
             set words IMAGE MACHINE OUT INPUT ..
@@ -86,4 +86,5 @@ complete -c pace -n __fish_use_subcommand -a draw -d "Store a picture of runs, o
 complete -c pace -n __scale_draws -a run -d "Store a picture of runs on one axis of time"
 complete -c pace -n __scale_draws -a plan -d "Store the graph of a program's code for Graphviz"
 complete -c pace -n __fish_use_subcommand -a jumps -d "Store a draft of the jump file of a program"
+complete -c pace -n __fish_use_subcommand -a split -d "Store an image each of whose loops is entered at one place"
 complete -c pace -n __fish_use_subcommand -a all -d "Draft and lower jumps, draft loops, and store the image that is fitted to inputs"

@@ -4,8 +4,6 @@ use Rattle.std.specs.Prelude.{Option, Result, Ok, Err}
 use Rattle.std.specs.FinMap.{get}
 use Rattle.scale_base.specs.declared.refusal.Refusal.{Refusal}
 use Rattle.scale_base.specs.declared.summary.Lowered.{Lowered}
-use Rattle.scale_base.specs.Image.{Image, contents, image_of}
-use Rattle.scale_base.proofs.Laws.{contents-are}
 use Rattle.host_files.specs.HostState.{Files}
 use Rattle.host_runs.specs.Answer.{Answer}
 use Rattle.host_runs.specs.Delivered.{with_stores}
@@ -13,19 +11,18 @@ use Rattle.image_lower.specs.Lowered.{IsLowered}
 use Rattle.image_lower.proofs.Laws.{lowered_safe}
 use Rattle.loop_drafts.specs.declared.drafted.LoopDraft.{LoopDraft}
 use Rattle.loop_drafts.specs.Kept.{AreBytes}
-use Rattle.loop_drafts.proofs.Laws.{returns_go_back}
 use Rattle.pace_tool.specs.Fits.{IsFittedSafely, MakesFit}
 use Rattle.pace_tool.specs.Drafts.{Drafts}
 use Rattle.pace_tool.specs.InOne.{IsTried, MakesDrafted, MakesFitted, MakesInOne, MakesOfPlain, MakesOfTried, MakesPlain, behind}
 use Rattle.host_runs.specs.Promise.{StoredPromise}
 use Rattle.pace_tool.specs.Promise.{FitsAny, IsFittedInOne, IsTriedSafely}
-use Rattle.version_laws.proofs.Laws.{versioned_runs_exit, versioned_runs_follow}
 use Rattle.versioned_images.specs.Versions.{IsVersionOf}
 use Rattle.version_fits.specs.declared.choosing.ChosenVersion.{ChosenVersion}
 use Rattle.pace_tool.specs.Texts.{drafted_text}
 use Rattle.pace_tool.proofs.Drafted.{drafted_safely}
 use Rattle.pace_tool.proofs.Behind.{behind_status, behind_stores}
 use Rattle.pace_tool.proofs.FitKept.{fit_kept, fit_small}
+use Rattle.pace_tool.proofs.VersionedSafely.{versioned_safely}
 
 -- ---- the status
 
@@ -54,10 +51,6 @@ in_one_small image machine most inputs versions out answer is = plain_small mach
 
 -- ---- the promise
 
-read_file : (file : List ℕ) (image : Image) → image_of file ≡ Ok image → image.file ≡ file
-unfolding contents
-read_file file image is = sym (ap (λ (i : Image). i.file) (contents-are file image is))
-
 -- the image that is fitted follows the one that goes on
 tried_kept : (machine : List ℕ) (most : Option ℕ) (inputs : List (List ℕ)) (versions : Bool) (plain tried text : List ℕ) → IsTried machine most inputs versions plain tried text → IsTriedSafely versions plain tried
 tried_kept machine most inputs false plain tried text is = is.0
@@ -65,22 +58,7 @@ tried_kept machine most inputs true plain tried text (inl same) = inl same.0
 tried_kept machine most inputs true plain tried text (inr other) =
     let chosen : ChosenVersion = other.0 in
     let version : IsVersionOf plain chosen.version = other.1.fitted.is_version in
-    inr (record {
-      image = version.image;
-      versioned = version.versioned;
-      pieces = chosen.version.pieces.items;
-      sites = chosen.version.sites.items;
-      base = chosen.version.base;
-      is_read = version.is_read;
-      is_versioned = version.is_versioned;
-      file = version.file ∙ sym other.2;
-      exits = λ levels input n status bytes back exited. versioned_runs_exit version.image version.versioned chosen.version.pieces.items chosen.version.sites.items chosen.version.base levels input n status version.is_versioned bytes back exited;
-      follows = λ levels input n bytes outside back. versioned_runs_follow version.image version.versioned chosen.version.pieces.items chosen.version.sites.items chosen.version.base levels input n version.is_versioned bytes outside back;
-      goes_back = λ limit draft drafted proved levels input n bytes has.
-          let own = subst AreBytes (read_file plain version.image version.is_read) version.is_versioned.bytes in
-          let back = returns_go_back plain limit draft version.image levels input n own bytes drafted version.is_read proved in
-          (back.0, back.1);
-    })
+    inr (versioned_safely plain tried version.image version.versioned chosen.version.pieces.items chosen.version.sites.items chosen.version.base version.is_read version.is_versioned (version.file ∙ sym other.2))
 
 module _ (image machine out : List ℕ) (most : Option ℕ) (inputs : List (List ℕ)) (versions : Bool) (files : Files) (answer : Answer) (bytes : AreBytes image) (short : length image ≤ 4194304) (done : answer.status ≢ 1) where
   abbrev IsKept : Type 0

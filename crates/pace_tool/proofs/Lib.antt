@@ -11,6 +11,8 @@ mod OneStatus
 mod OwnFiles
 mod Promises
 mod SmallStatus
+mod SplitKept
+mod VersionedSafely
 mod SwitchLines
 mod Told
 mod ToldInOne

@@ -16,7 +16,7 @@ use Rattle.host_runs.specs.Answer.{Answer, Giving, Tells, stored_answer, text_an
 use Rattle.host_runs.specs.Command.{IsAnswered, IsStatusOfAll}
 use Rattle.host_runs.specs.Views.{reply_view}
 use Rattle.host_runs.proofs.Laws as runs
-use Rattle.pace_tool.specs.Answer.{DraftsJumps, Makes}
+use Rattle.pace_tool.specs.Answer.{DraftsJumps, Makes, SplitsImage}
 use Rattle.pace_tool.specs.Fits.{Fits, MakesFit}
 use Rattle.pace_tool.proofs.FitKept.{fit_small}
 use Rattle.pace_tool.proofs.InOne.{in_one_small}
@@ -39,11 +39,11 @@ use Rattle.run_pictures.specs.PictureTexts.{picture_text}
 use Rattle.scale_base.specs.declared.ranges.Keyed.{Keyed}
 use Rattle.scale_base.specs.Image.{Image, image_of}
 use Rattle.loop_drafts.specs.declared.drafted.LoopDraft.{LoopDraft}
-use Rattle.pace_tool.specs.Command.{Command, Fit, FitVersions, Show, Loops, Explain, DrawRun, DrawPlan, Jumps, InOne, has_one_status, may_give, wants_of}
+use Rattle.pace_tool.specs.Command.{Command, Fit, FitVersions, Show, Loops, Explain, DrawRun, DrawPlan, Jumps, Split, InOne, has_one_status, may_give, wants_of}
 use Rattle.pace_tool.specs.Drafts.{Drafts}
 use Rattle.pace_tool.specs.Drawn.{DrawsPlan, DrawsRuns}
 use Rattle.pace_tool.proofs.DrawnFiles.{drawn_apart}
-use Rattle.pace_tool.specs.Texts.{drafted_text, fitted_text}
+use Rattle.pace_tool.specs.Texts.{drafted_text, fitted_text, split_text}
 
 -- a choice has an image that runs at one level, and a refusal says that there is none
 not_refused : (image machine loops : List ℕ) (inputs : List (List ℕ)) (proposals : List Proposal) (stored : List ℕ) (fitted : Fitted) (refusal : Refusal) →
@@ -122,6 +122,7 @@ one_made (DrawPlan image machine loops out) pinned (i ∷ m ∷ l ∷ []) one ot
     runs.one_told (DrawsPlan i m l) (stored_answer plan_text out) (file_same (DrawsPlan i m l) (plan_apart i m l) plan_text out) one other x y
 one_made (Jumps image out) pinned (i ∷ []) one other x y =
     runs.one_told (DraftsJumps i) (stored_answer jumps_text out) (file_same (DraftsJumps i) (jumps_apart i) jumps_text out) one other x y
+one_made (Split image out) pinned files one other x y = absurd (cc)
 one_made (InOne image machine out versions most inputs) pinned files one other x y = absurd (cc)
 one_made command pinned files one other x y = absurd x
 
@@ -141,6 +142,7 @@ status_small (Explain image machine loops) (i ∷ m ∷ l ∷ []) answer x = tex
 status_small (DrawRun machine out names) (m ∷ given) answer x = file_told (DrawsRuns m names given) picture_text out answer x
 status_small (DrawPlan image machine loops out) (i ∷ m ∷ l ∷ []) answer x = file_told (DrawsPlan i m l) plan_text out answer x
 status_small (Jumps image out) (i ∷ []) answer x = file_told (DraftsJumps i) jumps_text out answer x
+status_small (Split image out) (i ∷ []) answer x = file_told (SplitsImage i) split_text out answer x
 status_small (InOne image machine out versions most inputs) (i ∷ m ∷ given) answer x = in_one_small i m most given versions out answer x.1
 status_small command files answer x = absurd x
 

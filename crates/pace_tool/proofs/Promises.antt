@@ -9,16 +9,17 @@ use Rattle.host_runs.specs.Promise.{Promised, StoredPromise}
 use Rattle.host_runs.proofs.Laws as runs
 use Rattle.host_runs.proofs.Laws.{EachWithin}
 use Rattle.pace_fit.specs.Endings.{endings_on}
-use Rattle.pace_tool.specs.Answer.{Makes}
+use Rattle.pace_tool.specs.Answer.{Makes, SplitsImage}
 use Rattle.pace_tool.specs.Fits.{Fits, IsFittedSafely, MakesFit}
-use Rattle.pace_tool.specs.Command.{Command, Fit, FitVersions, Show, Loops, Explain, DrawRun, DrawPlan, Jumps, InOne, wants_of}
+use Rattle.pace_tool.specs.Command.{Command, Fit, FitVersions, Show, Loops, Explain, DrawRun, DrawPlan, Jumps, Split, InOne, wants_of}
 use Rattle.pace_tool.specs.Drafts.{Drafts, IsDraftedSafely}
-use Rattle.pace_tool.specs.Promise.{FitsAny, Promise}
-use Rattle.pace_tool.specs.Texts.{drafted_text, fitted_text}
+use Rattle.pace_tool.specs.Promise.{FitsAny, IsSplitSafely, Promise}
+use Rattle.pace_tool.specs.Texts.{drafted_text, fitted_text, split_text}
 use Rattle.pace_tool.proofs.Drafted.{drafted_safely}
 use Rattle.pace_tool.proofs.FitKept.{fit_kept}
 use Rattle.pace_tool.proofs.InOne.{in_one_kept}
 use Rattle.pace_tool.proofs.OwnFiles.{versions_kept}
+use Rattle.pace_tool.proofs.SplitKept.{split_safely}
 
 kept : (command : Command) (loaded : List (List ℕ)) (files : Files) (answer : Answer) → EachWithin (wants_of command) loaded → Makes command loaded answer → answer.status ≢ 1 →
     Promise command loaded (with_stores answer.stores files)
@@ -33,6 +34,8 @@ kept (Explain image machine loops) loaded files answer within made done = tt
 kept (DrawRun machine out names) loaded files answer within made done = tt
 kept (DrawPlan image machine loops out) loaded files answer within made done = tt
 kept (Jumps image out) loaded files answer within made done = tt
+kept (Split image out) (i ∷ []) files answer within made done = runs.stored_kept (SplitsImage i) (IsSplitSafely i) split_text out files (split_safely i) answer made done
+kept (Split image out) loaded files answer within made done = absurd made
 kept (InOne image machine out versions most inputs) (i ∷ m ∷ given) files answer within made done = in_one_kept i m out most given versions files answer made.0 within.0 done made.1
 kept (InOne image machine out versions most inputs) loaded files answer within made done = absurd made
 

@@ -12,6 +12,7 @@ pub data Command : Type 0 where
   DrawRun : (machine out : List ℕ) (names : List (List ℕ)) → Command
   DrawPlan : (image machine loops out : List ℕ) → Command
   Jumps : (image out : List ℕ) → Command
+  Split : (image out : List ℕ) → Command
   InOne : (image machine out : List ℕ) (versions : Bool) (most : Option ℕ) (inputs : List (List ℕ)) → Command
 
 -- how many bytes an input may have, where at most so many are told, and else
@@ -54,6 +55,7 @@ wants_of (Explain image machine loops) = program_wants image machine loops []
 wants_of (DrawRun machine out names) = drawn_wants machine names
 wants_of (DrawPlan image machine loops out) = program_wants image machine loops []
 wants_of (Jumps image out) = image_wants image []
+wants_of (Split image out) = image_wants image []
 wants_of (InOne image machine out versions most inputs) = machine_wants image machine (input_wants (input_limit most) inputs)
 
 -- the statuses that a command gives, but for a fault and want of memory
@@ -64,8 +66,8 @@ may_give status = nat_le status 1
 abbrev pub may_answer : ℕ → Bool
 may_answer status = may_give status || (status == 3 || status == 4)
 
--- whether all answers that are right for its files have one status: not of `loops` and `all`, since the draft of an image isn't the only one that may be stored, and not of `fit` where
--- versions are tried, since which version is taken isn't said
+-- whether all answers that are right for its files have one status: not of `loops` and `all`, since the draft of an image isn't the only one that may be stored, not of `fit` where
+-- versions are tried, since which version is taken isn't said, and not of `split`, since which copies are made isn't said
 abbrev pub has_one_status : Command → Bool
 has_one_status (Fit image machine loops out inputs) = true
 has_one_status (FitVersions image machine loops out inputs) = false
@@ -75,4 +77,5 @@ has_one_status (Explain image machine loops) = true
 has_one_status (DrawRun machine out names) = true
 has_one_status (DrawPlan image machine loops out) = true
 has_one_status (Jumps image out) = true
+has_one_status (Split image out) = false
 has_one_status (InOne image machine out versions most inputs) = false

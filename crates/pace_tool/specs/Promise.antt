@@ -1,5 +1,5 @@
 -- What the files that a command has stored promise to whoever runs them.
-use Rattle.std.specs.Prelude.{◌≡◌, ◌⊎◌, ℕ, Bool, true, false, List, ◌∷◌, Option, Result, Ok}
+use Rattle.std.specs.Prelude.{◌≡◌, ◌⊎◌, ℕ, Bool, true, false, List, [], ◌∷◌, Option, Result, Ok}
 use Rattle.std.specs.FinMap.{get}
 use Rattle.host_files.specs.HostState.{Files}
 use Rattle.scale_base.specs.Image.{Image, image_of}
@@ -24,7 +24,9 @@ use Rattle.loop_versions.specs.declared.pieces.Site.{Site}
 use Rattle.loop_versions.specs.Follows.{FollowsVersioned, GoesBack, StaysOutside}
 use Rattle.loop_versions.specs.Made.{IsVersioned}
 use Rattle.version_laws.specs.Exits.{ExitsAlike}
-use Rattle.pace_tool.specs.Command.{Command, Fit, FitVersions, Loops, InOne}
+use Rattle.split_images.specs.declared.split.SplitImage.{SplitImage}
+use Rattle.pace_tool.specs.Answer.{SplitsImage}
+use Rattle.pace_tool.specs.Command.{Command, Fit, FitVersions, Loops, Split, InOne}
 use Rattle.pace_tool.specs.InOne.{MakesPlain}
 use Rattle.pace_tool.specs.Drafts.{Drafts, IsDraftedSafely}
 
@@ -53,6 +55,10 @@ pub record IsVersionedSafely (plain tried : List ℕ) : Type 0 where
       (m : ℕ) × FollowsVersioned image versioned pieces sites base (run_of image levels input n) (run_of versioned levels input m)
   pub goes_back : (most : Option ℕ) (draft : LoopDraft) → IsDrafted plain most (Ok draft) → draft.returns ≡ true →
       (levels : ℕ) (input : List ℕ) (n : ℕ) → AreBytes input → GoesBack image versioned pieces sites base levels input n
+
+-- what `split` stores is the image itself, or one of it in which code is there twice, which follows it
+abbrev pub IsSplitSafely : (image file : List ℕ) → SplitImage → Type 0
+IsSplitSafely image file split = (file ≡ image) ⊎ IsVersionedSafely image file
 
 -- A file is a versioned image of another one, which has a loop file, and has one of its own. Where that exits at the end of a run that keeps its loop file, so does it, with the same
 -- status and output, at the end of a run that keeps its own; but for the steps at sites, bridges and guards, and those that fill x1 for an inlined call, its steps are of the same
@@ -114,7 +120,8 @@ pub record IsFittedInOne (image machine : List ℕ) (most : Option ℕ) (inputs 
 -- prints; where it prints that all loops are proved as well, every run on every input keeps that file as long as its returns go back to their calls; where it prints that returns
 -- are proved, those of every run on every input do, so that then every run keeps that file, and whatever is promised of runs that keep it; else no run breaks a bound of it before
 -- it breaks one that was written in by hand, or a return address; and where it prints that nothing is irreducible, the loops are taken. With a limit of inputs, what is promised of
--- bounds is so on every input that has no more bytes, and the file says so; what is promised of returns is so on every input. Of `all`: `IsFittedInOne`. `show` and
+-- bounds is so on every input that has no more bytes, and the file says so; what is promised of returns is so on every input. Of `split`: OUT has the image itself, or one
+-- of it that follows it (`IsVersionedSafely`). Of `all`: `IsFittedInOne`. `show` and
 -- `explain` store nothing, and promise nothing beside their answers. `draw run`,
 -- `draw plan` and `jumps` store files of which their answers say all (`DrawsRuns`, `DrawsPlan`, `DraftsJumps`).
 abbrev pub Promise : Command → List (List ℕ) → Files → Type 0
@@ -122,5 +129,6 @@ Promise (Fit image machine loops out inputs) (i ∷ m ∷ l ∷ given) after = S
     (get after out)
 Promise (FitVersions image machine loops out inputs) (i ∷ m ∷ l ∷ given) after = IsFittedWithVersions i m l given (get after out)
 Promise (Loops image out most inputs) (i ∷ given) after = StoredPromise (Drafts i most) (IsDraftedSafely i most) (get after out)
+Promise (Split image out) (i ∷ []) after = StoredPromise (SplitsImage i) (IsSplitSafely i) (get after out)
 Promise (InOne image machine out versions most inputs) (i ∷ m ∷ given) after = IsFittedInOne i m most given versions (get after out)
 Promise command files after = Unit {0}

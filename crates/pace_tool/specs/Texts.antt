@@ -11,6 +11,7 @@ use Rattle.paced_images.specs.declared.proposal.Proposal.{Proposal}
 use Rattle.pace_fit.specs.declared.endings.Ending.{Ending}
 use Rattle.pace_fit.specs.declared.fitting.Fitted.{Fitted}
 use Rattle.pace_fit.specs.Endings.{is_counted}
+use Rattle.split_images.specs.declared.split.SplitImage.{SplitImage}
 use Rattle.versioned_images.specs.declared.versions.Version.{Version}
 use Rattle.version_fits.specs.declared.choosing.ChosenVersion.{ChosenVersion}
 
@@ -105,3 +106,10 @@ drafted_text d =
     ++ number_line (codes "open ") d.unbounded
     ++ number_line (codes "irreducible ") d.aside
     ++ returns_line d.returns
+
+-- a split image: how many parts of the code turned and were entered at several places, how many do in it, and how many instructions were added
+abbrev pub split_text : SplitImage → List ℕ
+split_text split =
+    number_line (codes "parts ") split.parts
+    ++ number_line (codes "left ") split.left
+    ++ number_line (codes "instructions ") split.instructions

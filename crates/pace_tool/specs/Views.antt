@@ -8,7 +8,7 @@ use Rattle.pace_tool.specs.declared.command.Fit.{Fit as ParsedFit}
 use Rattle.pace_tool.specs.declared.command.InOne.{InOne as ParsedInOne}
 use Rattle.pace_tool.specs.declared.command.Job.{Job}
 use Rattle.pace_tool.specs.declared.command.Job.TheVariants as job
-use Rattle.pace_tool.specs.Command.{Command, Fit, FitVersions, Show, Loops, Explain, DrawRun, DrawPlan, Jumps, InOne}
+use Rattle.pace_tool.specs.Command.{Command, Fit, FitVersions, Show, Loops, Explain, DrawRun, DrawPlan, Jumps, Split, InOne}
 
 -- words as texts
 abbrev pub texts : List (Bor (List ℕ)) → List (List ℕ)
@@ -36,6 +36,7 @@ command_view (job.Explain program) = Explain program.image.now program.machine.n
 command_view (job.DrawRun draw) = DrawRun draw.machine.now draw.out.now (texts draw.names.now)
 command_view (job.DrawPlan draw) = DrawPlan draw.program.image.now draw.program.machine.now draw.program.loops.now draw.out.now
 command_view (job.Jumps jumps) = Jumps jumps.image.now jumps.out.now
+command_view (job.Split split) = Split split.image.now split.out.now
 command_view (job.InOne command) = in_one_view command
 
 -- the file of a draft as it is printed, and the draft

@@ -43,6 +43,13 @@ pub struct Jumps<'a> {
     pub out: &'a str,
 }
 
+/// The command `split`, with the names of its files: it stores the image of a program whose code that turns is entered at one place each.
+#[derive(Clone, Copy)]
+pub struct Split<'a> {
+    pub image: &'a str,
+    pub out: &'a str,
+}
+
 /// The command `draw run`, with the names of its files, of images and of inputs by turns: it stores a picture of their runs.
 #[derive(Clone, Copy)]
 pub struct DrawRun<'a> {
@@ -84,6 +91,7 @@ pub enum Job<'a> {
     DrawRun(DrawRun<'a>),
     DrawPlan(DrawPlan<'a>),
     Jumps(Jumps<'a>),
+    Split(Split<'a>),
     InOne(InOne<'a>),
 }
 
@@ -116,6 +124,7 @@ fn want_at<'a>(command: &Job<'a>, number: usize) -> Option<Want<'a>>
         Job::DrawRun(draw) => drawn_want(draw.machine, draw.names, number),
         Job::DrawPlan(draw) => program_want(draw.program, &[], number),
         Job::Jumps(jumps) => image_want(jumps.image, FILE_LIMIT, &[], number),
+        Job::Split(split) => image_want(split.image, FILE_LIMIT, &[], number),
         Job::InOne(command) => machine_want(
             command.image,
             command.machine,
@@ -266,6 +275,7 @@ pub fn stored_name<'a>(command: &Job<'a>) -> Option<&'a str> {
         Job::DrawRun(draw) => Some(draw.out),
         Job::DrawPlan(draw) => Some(draw.out),
         Job::Jumps(jumps) => Some(jumps.out),
+        Job::Split(split) => Some(split.out),
         Job::InOne(command) => Some(command.out),
     }
 }

@@ -19,6 +19,7 @@ mod pace;
 mod plain;
 mod replies;
 mod show;
+mod split;
 mod texts;
 mod versions;
 mod words;

@@ -16,6 +16,7 @@ use crate::in_one::in_one_made;
 use crate::jumps::jumps_reply;
 use crate::loops::loops_reply;
 use crate::show::show_reply;
+use crate::split::split_reply;
 use crate::versions::versions_made;
 use host_runs::{FileCommand, ProgramFiles, Reply, Want};
 use loop_drafts::DraftInputs;
@@ -49,6 +50,7 @@ fn made_of<P: Progress>(
         Job::DrawRun(draw) => draw_run_reply(alloc, draw, &files[0], &files[1..], progress),
         Job::DrawPlan(draw) => draw_plan_reply(alloc, draw.out, &ProgramFiles::of(files)),
         Job::Jumps(jumps) => jumps_reply(alloc, jumps.out, &files[0]),
+        Job::Split(split) => split_reply(alloc, split.out, &files[0]),
         Job::InOne(command) => in_one_made(alloc, command, files, progress),
     }
 }

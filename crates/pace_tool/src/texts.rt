@@ -2,13 +2,14 @@
 
 ghost use Rattle.std.specs.Prelude.{◌≡◌, ◌+◌, ◌++◌, ◌≤◌, length, IfOk, OnOk, Some, string_bytes};
 ghost use Rattle.scale_report.specs.Texts.{number_line, numbered_lines};
-ghost use Rattle.pace_tool.specs.Texts.{drafted_text, fitted_text, form_name, left_line, left_line_if, proposal_lines, returns_line, rewrite_line, switch_line, switch_lines, switches_text, tally_line, tally_lines, guard_words, limit_line, version_text};
+ghost use Rattle.pace_tool.specs.Texts.{drafted_text, fitted_text, form_name, left_line, left_line_if, proposal_lines, returns_line, rewrite_line, switch_line, switch_lines, switches_text, tally_line, tally_lines, guard_words, limit_line, split_text, version_text};
 
 use loop_drafts::LoopDraft;
 use pace_fit::{Ending, Fitted, is_counted};
 use paced_images::{Proposal, SwitchSite};
 use scale_base::{End, NoMemory};
 use scale_report::{Address, EndWords, KeptWords, kind_name, summary_text};
+use split_images::SplitImage;
 use std::alloc::{AllocError, Global};
 use std::fmt;
 use std::fmt::Write;
@@ -252,5 +253,16 @@ pub fn drafted_text(alloc: Global, draft: &LoopDraft) -> Result<String, NoMemory
     push_size(&mut text, "open ", draft.unbounded)?;
     push_size(&mut text, "irreducible ", draft.aside)?;
     push_returns(&mut text, draft.returns)?;
+    Ok(text)
+}
+
+/// What is told of a split image: how many parts of the code turned and were entered at several places, how many do in it, and how many instructions were added.
+pub fn split_text(alloc: Global, split: &SplitImage) -> Result<String, NoMemory>
+    ensures { IfOk result (λ text. string_bytes text ≡ split_text split.now) }
+{
+    let mut text = String::new(alloc);
+    push_size(&mut text, "parts ", split.parts)?;
+    push_size(&mut text, "left ", split.left)?;
+    push_count(&mut text, "instructions ", split.instructions)?;
     Ok(text)
 }

@@ -1,6 +1,6 @@
 //! The words of the command line, as `clap` reads them.
 
-use crate::command::{DrawPlan, DrawRun, Fit, InOne, Job, Jumps, Loops, Program};
+use crate::command::{DrawPlan, DrawRun, Fit, InOne, Job, Jumps, Loops, Program, Split};
 use crate::input_names::{InputLimit, InputNames};
 use clap::{Arg, ArgAction, ArgMatches, Command as CommandLine, Error};
 use std::alloc::{AllocError, Global};
@@ -155,6 +155,15 @@ fn jumps_line<'a>(alloc: Global) -> Result<CommandLine<'a>, AllocError> {
     .arg(required(alloc, "OUT", "The name of the jump file that is stored"))
 }
 
+fn split_line<'a>(alloc: Global) -> Result<CommandLine<'a>, AllocError> {
+    over_image(
+        alloc,
+        "split",
+        "Stores the image of a program with one entry into each loop, by copies of code",
+    )?
+    .arg(required(alloc, "OUT", "The name of the image that is stored"))
+}
+
 fn all_line<'a>(alloc: Global) -> Result<CommandLine<'a>, AllocError> {
     over_image(
         alloc,
@@ -189,6 +198,7 @@ fn command_line<'a>(alloc: Global) -> Result<CommandLine<'a>, AllocError> {
         .subcommand(explain_line(alloc)?)?
         .subcommand(draw_line(alloc)?)?
         .subcommand(jumps_line(alloc)?)?
+        .subcommand(split_line(alloc)?)?
         .subcommand(all_line(alloc)?)
 }
 
@@ -207,6 +217,7 @@ pub fn command_of<'m>(matches: &'m ArgMatches<'_>) -> Option<Job<'m>> {
         "explain" => Some(Job::Explain(program_of(given)?)),
         "draw" => drawing_of(given),
         "jumps" => Some(Job::Jumps(jumps_of(given)?)),
+        "split" => Some(Job::Split(split_of(given)?)),
         "all" => Some(Job::InOne(in_one_of(given)?)),
         _ => None,
     }
@@ -299,6 +310,13 @@ fn draw_plan_of<'m>(given: &'m ArgMatches<'_>) -> Option<DrawPlan<'m>> {
 
 fn jumps_of<'m>(given: &'m ArgMatches<'_>) -> Option<Jumps<'m>> {
     Some(Jumps {
+        image: given.get_str("IMAGE")?,
+        out: given.get_str("OUT")?,
+    })
+}
+
+fn split_of<'m>(given: &'m ArgMatches<'_>) -> Option<Split<'m>> {
+    Some(Split {
         image: given.get_str("IMAGE")?,
         out: given.get_str("OUT")?,
     })

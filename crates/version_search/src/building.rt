@@ -117,7 +117,21 @@ fn copied(copies: &[Copy<'_>], copy: &Copy<'_>, at: u32, instr: Instr) -> Piece 
 }
 
 impl Version {
-    fn push(&mut self, piece: Piece) -> Result<(), NoMemory> {
+    /// Without pieces, whose first stands at a base.
+    pub fn new(alloc: Global, base: u32) -> Version {
+        Version {
+            pieces: Vec::new(alloc),
+            sites: Vec::new(alloc),
+            place: base,
+        }
+    }
+
+    /// Where the next piece stands.
+    pub fn place(&self) -> u32 {
+        self.place
+    }
+
+    pub fn push(&mut self, piece: Piece) -> Result<(), NoMemory> {
         self.place = self.place.wrapping_add(4 * piece_len(&piece));
         self.pieces.push(piece)?;
         Ok(())
@@ -214,7 +228,8 @@ impl Version {
         Ok(())
     }
 
-    fn push_copy(
+    /// One of some copies, and the jumps out of it.
+    pub fn push_copy(
         &mut self,
         alloc: Global,
         code: &Code<'_>,
@@ -231,7 +246,10 @@ impl Version {
             self.push_word(code, copies, copy, i)?;
         }
         for to in &copy.outside(alloc)? {
-            self.push_back(*to)?;
+            self.push(Piece::Bridge {
+                at: *to,
+                to: copy.jump(*to),
+            })?;
         }
         Ok(())
     }
@@ -252,11 +270,7 @@ pub fn build(
     let Some(first) = copies.all.first() else {
         return Ok(None);
     };
-    let mut version = Version {
-        pieces: Vec::new(alloc),
-        sites: Vec::new(alloc),
-        place: base,
-    };
+    let mut version = Version::new(alloc, base);
     for entry in plan.region.entries {
         version.push_entry(plan, first, entry)?;
     }

@@ -10,13 +10,13 @@ use loop_forest::LoopTree;
 use scale_base::{Edge, Instr, NoMemory};
 use std::alloc::Global;
 
-/// An image, its graph and its loops; by node, how many loops are round it, how many edges lead to it, and the innermost loop round it; by
+/// An image, its graph and its loops, if these are known; by node, how many loops are round it, how many edges lead to it, and the innermost loop round it; by
 /// function, its nodes; and the nodes that end the program.
 #[derive(Drop)]
 pub struct Code<'a> {
     pub view: &'a ImageView<'a>,
     graph: &'a CodeGraph,
-    tree: &'a LoopTree,
+    tree: Option<&'a LoopTree>,
     depths: Vec<u32>,
     arrivals: Vec<u32>,
     innermost: Vec<Option<usize>>,
@@ -34,8 +34,15 @@ fn instr_or_end(view: &ImageView<'_>, at: u32) -> Instr {
 }
 
 // By node, how many loops are round it.
-fn depths_of(alloc: Global, graph: &CodeGraph, tree: &LoopTree) -> Result<Vec<u32>, NoMemory> {
+fn depths_of(
+    alloc: Global,
+    graph: &CodeGraph,
+    tree: Option<&LoopTree>,
+) -> Result<Vec<u32>, NoMemory> {
     let mut depths = vec![in alloc; 0; graph.node_count()]?;
+    let Some(tree) = tree else {
+        return Ok(depths);
+    };
     for l in 0..tree.loop_count() {
         add_body(&mut depths, tree.body(l));
     }
@@ -63,10 +70,13 @@ fn add_arrival(arrivals: &mut [u32], k: usize) {
 fn innermost_of(
     alloc: Global,
     graph: &CodeGraph,
-    tree: &LoopTree,
+    tree: Option<&LoopTree>,
 ) -> Result<Vec<Option<usize>>, NoMemory> {
     let mut lens = vec![in alloc; usize::MAX; graph.node_count()]?;
     let mut innermost = vec![in alloc; None; graph.node_count()]?;
+    let Some(tree) = tree else {
+        return Ok(innermost);
+    };
     for l in 0..tree.loop_count() {
         for k in tree.body(l) {
             note_loop(&mut innermost, &mut lens, *k, l, tree.body(l).len());
@@ -114,7 +124,7 @@ impl<'a> Code<'a> {
         alloc: Global,
         view: &'a ImageView<'a>,
         graph: &'a CodeGraph,
-        tree: &'a LoopTree,
+        tree: Option<&'a LoopTree>,
     ) -> Result<Code<'a>, NoMemory> {
         let depths = depths_of(alloc, graph, tree)?;
         let arrivals = arrivals_of(alloc, graph)?;
@@ -149,7 +159,10 @@ impl<'a> Code<'a> {
     }
 
     pub fn loop_count(&self) -> usize {
-        self.tree.loop_count()
+        match self.tree {
+            Some(tree) => tree.loop_count(),
+            None => 0,
+        }
     }
 
     pub fn function_count(&self) -> usize {
@@ -220,42 +233,40 @@ impl<'a> Code<'a> {
 
     /// The nodes of a loop, ascending.
     pub fn body(&self, l: usize) -> &'a [usize] {
-        let tree = self.tree;
-        if l < tree.loop_count() {
-            tree.body(l)
-        } else {
-            &[]
+        match self.tree {
+            Some(tree) if l < tree.loop_count() => tree.body(l),
+            _ => &[],
         }
     }
 
     /// How many back edges an entry of a loop may take.
     pub fn bound(&self, l: usize) -> u32 {
-        if l < self.tree.loop_count() {
-            self.tree.bound(l)
-        } else {
-            0
+        match self.tree {
+            Some(tree) if l < tree.loop_count() => tree.bound(l),
+            _ => 0,
         }
     }
 
     /// The loop round a loop.
     pub fn parent(&self, l: usize) -> Option<usize> {
-        if l < self.tree.loop_count() {
-            self.tree.parent(l)
-        } else {
-            None
+        match self.tree {
+            Some(tree) if l < tree.loop_count() => tree.parent(l),
+            _ => None,
         }
     }
 
     pub fn is_in_body(&self, l: usize, k: usize) -> bool {
-        l < self.tree.loop_count() && self.tree.in_body(l, k)
+        match self.tree {
+            Some(tree) => l < tree.loop_count() && tree.in_body(l, k),
+            None => false,
+        }
     }
 
     /// The node of a loop's header.
     pub fn header(&self, l: usize) -> usize {
-        if l < self.tree.loop_count() {
-            self.tree.header(l)
-        } else {
-            0
+        match self.tree {
+            Some(tree) if l < tree.loop_count() => tree.header(l),
+            _ => 0,
         }
     }
 
@@ -328,6 +339,25 @@ impl<'a> Code<'a> {
 
     pub fn edge_count(&self) -> usize {
         self.graph.edge_count()
+    }
+
+    /// From which node to which one an edge leads, of one function.
+    pub fn edge_ends(&self, e: usize) -> Option<(usize, usize)> {
+        let to = self.target(e)?;
+        if e < self.graph.edge_count() {
+            Some((self.graph.source(e), to))
+        } else {
+            None
+        }
+    }
+
+    /// Whether a function begins at a node.
+    pub fn is_begin(&self, k: usize) -> bool {
+        if k >= self.graph.node_count() {
+            return false;
+        }
+        let f = self.graph.owner(k);
+        f < self.graph.function_count() && self.graph.entry_node(f) == k
     }
 
     /// An edge that leads from outside a loop to its header.

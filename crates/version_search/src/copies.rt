@@ -18,8 +18,8 @@ pub struct CallSite {
 }
 
 /// The copy of a loop, or of a function that is called in another copy. It has, by address of a word of the text, the place of its copy; by address to
-/// which a branch leaves it, the place of the jump there; and by address of a call the number of the copy of what is called. Copies of what it calls
-/// stand in front of its end.
+/// which a branch leaves it, the place of the jump there; by address of a call the number of the copy of what is called; and by address to which ways out
+/// of it lead elsewhere than into the text, where they lead. Copies of what it calls stand in front of its end.
 #[derive(Drop)]
 pub struct Copy<'a> {
     pub nodes: &'a [usize],
@@ -29,6 +29,7 @@ pub struct Copy<'a> {
     places: BTreeMap<u32, u32>,
     pads: BTreeMap<u32, u32>,
     callees: BTreeMap<u32, usize>,
+    others: BTreeMap<u32, u32>,
 }
 
 /// A copy with those of all functions that are inlined in it, one behind the other, and calls whose copies aren't there yet.
@@ -74,6 +75,7 @@ impl<'a> Copy<'a> {
             places: BTreeMap::new(alloc),
             pads: BTreeMap::new(alloc),
             callees: BTreeMap::new(alloc),
+            others: BTreeMap::new(alloc),
         }
     }
 
@@ -126,7 +128,7 @@ impl<'a> Copy<'a> {
     pub fn jump(&self, to: u32) -> u32 {
         match self.places.get(&to) {
             Some(place) => *place,
-            None => to,
+            None => self.others.get(&to).copied().unwrap_or(to),
         }
     }
 
@@ -200,6 +202,22 @@ impl<'a> Copies<'a> {
         }
     }
 
+    /// Where the first copy has an address of the text.
+    pub fn place(&self, at: u32) -> u32 {
+        match self.all.first() {
+            Some(copy) => copy.jump(at),
+            None => at,
+        }
+    }
+
+    /// Ways out of the first copy to an address of the text lead to another place that stands for it.
+    pub fn lead(&mut self, at: u32, to: u32) -> Result<(), NoMemory> {
+        if self.all.len() > 0 {
+            self.all[0].others.insert(at, to)?;
+        }
+        Ok(())
+    }
+
     // Adds a copy, whose calls wait.
     fn push(&mut self, code: &Code<'_>, copy: Copy<'a>) -> Result<(), NoMemory> {
         let number = self.all.len();
@@ -216,8 +234,8 @@ impl<'a> Copies<'a> {
         Ok(())
     }
 
-    // Where the next copy begins: what a copy calls stands behind it, in front of what its caller calls next.
-    fn end(&self) -> u32 {
+    /// Where the next copy begins: what a copy calls stands behind it, in front of what its caller calls next.
+    pub fn end(&self) -> u32 {
         match self.all.last() {
             Some(copy) => copy.end,
             None => 0,

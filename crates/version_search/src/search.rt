@@ -234,7 +234,7 @@ pub fn find_candidates(
     graph: &CodeGraph,
     tree: &LoopTree,
 ) -> Result<Vec<Candidate>, NoMemory> {
-    let code = Code::new(alloc, view, graph, tree)?;
+    let code = Code::new(alloc, view, graph, Some(tree))?;
     let functions = Functions::of(alloc, &code)?;
     let mut search = Search {
         code: &code,
