@@ -1,4 +1,4 @@
--- Scaffold: which files are versioned images of others.
+-- Which files are versioned images of others.
 use Rattle.std.specs.Prelude.{◌≡◌, ℕ, ◌+◌, ◌*◌, ◌≤◌, false, List, [], ◌∷◌, length, None, Ok}
 use Rattle.scale_base.specs.declared.limits.TheConstants.{IMAGE_LIMIT}
 use Rattle.scale_base.specs.Image.{Image, image_of}
