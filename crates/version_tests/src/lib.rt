@@ -16,4 +16,6 @@ mod proposals;
 #[cfg(test)]
 mod runs;
 #[cfg(test)]
+mod splits;
+#[cfg(test)]
 mod versions;

@@ -47,6 +47,11 @@ fn run(alloc: Global, file: &[u8], byte: u8, at: u32) -> Result<Ended, Fail> {
     Ok(Ended { status: None, met })
 }
 
+/// The status with which a run on a byte ends.
+pub fn status_of(alloc: Global, file: &[u8], byte: u8) -> Result<Option<u8>, Fail> {
+    Ok(run(alloc, file, byte, 0)?.status)
+}
+
 // The image with a candidate's pieces and sites.
 fn made_of(alloc: Global, view: &ImageView<'_>, candidate: &Candidate) -> Result<Vec<u8>, Fail> {
     match versioned(alloc, view, &candidate.pieces, &candidate.sites)? {
