@@ -21,7 +21,8 @@ use Rattle.bound_laws.proofs.Laws.{kept_too, not_broken, all_returns, kept_befor
 use Rattle.stack_laws.specs.Areas.{IsLaidOut}
 use Rattle.stack_laws.specs.Stacks.{Stacks, view_of, IsStackInvariant, AreTold}
 use Rattle.stack_laws.specs.Counting as counting
-use Rattle.stack_laws.proofs.Laws.{image_laid, image_told, runs_come_back}
+use Rattle.stack_laws.specs.Tidy.{IsCertain}
+use Rattle.stack_laws.proofs.Laws.{certain_tidy, image_laid, image_told, runs_come_back}
 use Rattle.stack_laws.proofs.Laws.{stacks_bound_turns}
 use Rattle.walk_areas.specs.Walking.{IsWalkShown}
 use Rattle.walk_areas.proofs.Laws.{walks_bound}
@@ -39,16 +40,16 @@ same_leaving l bounds Call pc next k = refl
 same_leaving l bounds Return pc next k = refl
 
 module _ (t : Text) (env : Setting) (s : State) (code : Code) (v : Values) (w : Stacks) (most : Option ℕ) (l : Loops) (start : IsStartOver t env s) (reached : IsReachedCode t code) (inv : IsStackInvariant t (text_graph t code) v w)
-    (laid : IsLaidOut env.layout w.areas w.fixed) (starts : AreTold v w s.pc (view_of w s.regs s.regs s.bytes)) (bytes : AreBytes s.bytes) (input : All (λ x. x < 256) env.input) (within : IsInputWithin most env.input) where
+    (laid : IsLaidOut env.layout w.areas w.fixed) (starts : AreTold v w s.pc (view_of w s.regs s.regs s.bytes)) (bytes : AreBytes s.bytes) (input : All (λ x. x < 256) env.input) (within : IsInputWithin most env.input) (certain : IsCertain w) where
   pub bounded : (k : ℕ) → IsShown t (text_graph t code) v w most l k → (n : ℕ) (d : Carried) → kept_at env s (unasked l) n ≡ Some d → d.counts k ≤ l.bound k
   bounded k has n d kept = ⊎_elim
       (λ (q : counting.IsShown t (text_graph t code) v w l k). few_turns (d.counts k) q.certificate.least q.certificate.width (l.bound k) q.positive
-      (stacks_bound_turns t env s code v w l k q.certificate start reached inv laid starts bytes input q.is q.within n d kept) q.enough)
+      (stacks_bound_turns t env s code v w l k q.certificate start reached inv laid starts bytes input q.is q.within n (certain_tidy v w env s certain n) d kept) q.enough)
       (λ (others : IsTurnShown t (text_graph t code) v w most l k ⊎ IsWalkShown t (text_graph t code) v w l k). ⊎_elim
       (λ (q : IsTurnShown t (text_graph t code) v w most l k). few_turns (d.counts k) q.certificate.least q.certificate.width (l.bound k) q.positive
-      (turns_bound t env s code v w most l k q.certificate start reached inv laid starts bytes input within q.is n d kept) q.enough)
+      (turns_bound t env s code v w most l k q.certificate start reached inv laid starts bytes input within q.is n (certain_tidy v w env s certain n) d kept) q.enough)
       (λ (q : IsWalkShown t (text_graph t code) v w l k). few_turns (d.counts k) q.certificate.least q.certificate.width (l.bound k) q.positive
-      (walks_bound t env s code v w l k q.certificate start reached inv laid starts bytes input q.is n d kept) q.enough) others) has
+      (walks_bound t env s code v w l k q.certificate start reached inv laid starts bytes input q.is n (certain_tidy v w env s certain n) d kept) q.enough) others) has
 
   pub kept_by_shown : ((k : ℕ) → k < l.loops → IsShown t (text_graph t code) v w most l k × (l.least_trips k ≡ 0)) → (n : ℕ) (d : Carried) → kept_at env s (unasked l) n ≡ Some d → kept_at env s l n ≡ Some d
   kept_by_shown has n d kept = kept_too l (unasked l) (λ c x. refl) env s
@@ -87,7 +88,7 @@ shown_kept file image levels input code v w most l bounds read small_file small_
     s = start_of image levels
 
     by : (m : ℕ) (d : Carried) → kept_at env s (with_bounds l bounds) m ≡ Some d → kept_at env s l m ≡ Some d
-    by m d h = kept_by_bounds (text_of image) env s code v w most l (image_starts file image levels input read) ana.reached ana.invariant (image_laid image code v w ana) (image_told image levels code v w ana) (loaded_small file image read small_file) small_input within bounds which m d h
+    by m d h = kept_by_bounds (text_of image) env s code v w most l (image_starts file image levels input read) ana.reached ana.invariant (image_laid image code v w ana) (image_told image levels code v w ana) (loaded_small file image read small_file) small_input within ana.certain bounds which m d h
 
 pub shown_by_returns : ShownBoundsAreKeptByReturns
 unfolding run_of
@@ -108,7 +109,7 @@ shown_by_returns file image levels input code v w most l read small_file small_i
     s = start_of image levels
 
     by : (m : ℕ) (d : Carried) → kept_at env s (unasked l) m ≡ Some d → kept_at env s l m ≡ Some d
-    by m d h = kept_by_shown (text_of image) env s code v w most l (image_starts file image levels input read) ana.reached ana.invariant (image_laid image code v w ana) (image_told image levels code v w ana) (loaded_small file image read small_file) small_input within which m d h
+    by m d h = kept_by_shown (text_of image) env s code v w most l (image_starts file image levels input read) ana.reached ana.invariant (image_laid image code v w ana) (image_told image levels code v w ana) (loaded_small file image read small_file) small_input within ana.certain which m d h
 
     here : (m : ℕ) → m ≤ n → (d : Carried) × (kept_at env s l m ≡ Some d) × (length d.returns ≤ most_returns)
     here m le =
@@ -120,4 +121,5 @@ pub runs_kept : RunsAreKept
 unfolding run_of
 runs_kept file image levels input code v w most l read small_file small_input within ana comes which n =
     shown_by_returns file image levels input code v w most l read small_file small_input within ana which n (λ m le.
-    runs_come_back (text_of image) (setting_of image levels input) (start_of image levels) code v w (image_starts file image levels input read) ana.reached ana.invariant comes (image_laid image code v w ana) (image_told image levels code v w ana) (loaded_small file image read small_file) small_input m)
+    runs_come_back (text_of image) (setting_of image levels input) (start_of image levels) code v w (image_starts file image levels input read) ana.reached ana.invariant comes (image_laid image code v w ana) (image_told image levels code v w ana) (loaded_small file image read small_file) small_input m
+    (certain_tidy v w (setting_of image levels input) (start_of image levels) ana.certain m))
