@@ -26,7 +26,8 @@ use Rattle.bound_laws.proofs.Laws.{At, Onward, Way, all_returns, along, back_to,
 use Rattle.stack_laws.specs.Areas.{IsLaidOut}
 use Rattle.stack_laws.specs.Laws.{StackValuesHold}
 use Rattle.stack_laws.specs.Stacks.{Stacks, view_of, IsStackInvariant, AreTold}
-use Rattle.stack_laws.proofs.Laws.{bytes_kept, image_laid, image_told}
+use Rattle.stack_laws.specs.Tidy.{IsTidy}
+use Rattle.stack_laws.proofs.Laws.{certain_tidy, tidy_before, bytes_kept, image_laid, image_told}
 use Rattle.jump_laws.specs.declared.reads.TableRead.{TableRead}
 use Rattle.jump_laws.specs.Reads.{AreReads, IsRead}
 use Rattle.jump_laws.specs.Laws.{AreUnwritten, ImageWordsHold, TableWordsHold}
@@ -141,26 +142,28 @@ module _ (told_along : StackValuesHold) (t : Text) (env : Setting) (s : State) (
   first : Holds s
   first = record { same = λ a off. refl; read = subst (λ (o : Option TableRead). IsRead s.bytes o s.regs) (sym (ap known start.entry ∙ reads.start)) tt }
 
-  pub holds_at : (n : ℕ) (rs : List ℕ) → returns_so (run env s n).steps ≡ Some rs → (run env s n).standing ≡ GoesOn → Holds (run env s n).state
+  pub holds_at : (n : ℕ) → IsTidy v w env s n → (rs : List ℕ) → returns_so (run env s n).steps ≡ Some rs → (run env s n).standing ≡ GoesOn → Holds (run env s n).state
   unfolding run
-  holds_at zero rs returns on = first
-  holds_at (suc n) rs returns on =
+  holds_at zero tidy rs returns on = first
+  holds_at (suc n) tidy rs returns on =
       let l = last_step env s n on in
       let so : returns_so ((run env s n).steps ++ l.x ∷ []) ≡ Some rs = sym (ap (λ y. returns_so y.steps) l.same) ∙ returns in
       let b = returns_before (run env s n).steps l.x rs so (returns_so (run env s n).steps) refl in
-      let ih : Holds (run env s n).state = holds_at n b.0 b.1 l.goes in
+      let before : IsTidy v w env s n = tidy_before v w env s n tidy in
+      let ih : Holds (run env s n).state = holds_at n before b.0 b.1 l.goes in
       let stood = stands_at n l.goes b.0 b.1 in
-      let told = told_along t env s code v w start reached inv laid starts bytes input n b.0 b.1 l.goes in
+      let told = told_along t env s code v w start reached inv laid starts bytes input n before b.0 b.1 l.goes in
       let after : returns_after stood.0 l.x ≡ Some rs = ap (λ q. returns_after q l.x) stood.2 ∙ b.2 in
       let then : Holds (step env (run env s n).state).state = onwards n (stood.0, stood.1) told.0 told.1 ih l.x l.went rs after in
       subst Holds (sym (ap (λ y. y.state) l.same)) then
 
 pub words_hold : StackValuesHold → TableWordsHold
-words_hold told_along t env s code v w known start reached inv reads unwritten laid starts bytes input n rs returns on =
-    (holds_at told_along t env s code v w known start reached inv reads unwritten laid starts bytes input n rs returns on).read
+words_hold told_along t env s code v w known start reached inv reads unwritten laid starts bytes input n tidy rs returns on =
+    (holds_at told_along t env s code v w known start reached inv reads unwritten laid starts bytes input n tidy rs returns on).read
 
 pub image_words_hold : StackValuesHold → ImageWordsHold
 unfolding run_of
 image_words_hold told_along file image levels input code v w known read small_file small_input ana reads unwritten n rs returns on =
     words_hold told_along (text_of image) (setting_of image levels input) (start_of image levels) code v w known (image_starts file image levels input read) ana.reached ana.invariant reads unwritten
-    (image_laid image code v w ana) (image_told image levels code v w ana) (loaded_small file image read small_file) small_input n rs returns on
+    (image_laid image code v w ana) (image_told image levels code v w ana) (loaded_small file image read small_file) small_input n
+    (certain_tidy v w (setting_of image levels input) (start_of image levels) ana.certain n) rs returns on

@@ -13,6 +13,7 @@ use Rattle.bound_laws.specs.Values.{Values, AreBytes}
 use Rattle.stack_laws.specs.Areas.{IsLaidOut}
 use Rattle.stack_laws.specs.Laws.{IsStackAnalysed}
 use Rattle.stack_laws.specs.Stacks.{Stacks, view_of, IsStackInvariant, AreTold}
+use Rattle.stack_laws.specs.Tidy.{IsTidy}
 use Rattle.fixed_tables.specs.Tables.{IsFixedWord}
 use Rattle.jump_laws.specs.declared.reads.TableRead.{TableRead}
 use Rattle.jump_laws.specs.Reads.{AreReads, IsRead}
@@ -31,13 +32,14 @@ abbrev pub AreUnwritten : Layout → (ℕ → Option TableRead) → Type 0
 AreUnwritten layout known = (a : ℕ) (x : TableRead) → known a ≡ Some x → (k : ℕ) → k < x.table.count →
     IsUnwritten layout (x.table.at + x.table.step * k)
 
--- As long as the returns of a run go back to their calls, the registers that are known to have words of tables have them, as these were at the start.
+-- As long as a run is tidy and its returns go back to their calls, the registers that are known to have words of tables have them, as these
+-- were at the start.
 abbrev pub TableWordsHold : Type 0
 TableWordsHold = (t : Text) (env : Setting) (s : State) (code : Code) (v : Values) (w : Stacks) (known : ℕ → Option TableRead) →
     IsStartOver t env s → IsReachedCode t code → IsStackInvariant t (text_graph t code) v w →
     AreReads t (text_graph t code) v known → AreUnwritten env.layout known →
     IsLaidOut env.layout w.areas w.fixed → AreTold v w s.pc (view_of w s.regs s.regs s.bytes) → AreBytes s.bytes → All (λ x. x < 256) env.input →
-    (n : ℕ) (rs : List ℕ) → returns_so (run env s n).steps ≡ Some rs → (run env s n).standing ≡ GoesOn →
+    (n : ℕ) → IsTidy v w env s n → (rs : List ℕ) → returns_so (run env s n).steps ≡ Some rs → (run env s n).standing ≡ GoesOn →
     IsRead s.bytes (known (run env s n).state.pc) (run env s n).state.regs
 
 -- The same over an image, on each input, of the words that it loads.

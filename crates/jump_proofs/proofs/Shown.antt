@@ -14,7 +14,7 @@ use Rattle.graph_runs.proofs.Laws.{image_starts}
 use Rattle.bound_laws.proofs.Laws.{loaded_small}
 use Rattle.stack_laws.specs.Laws.{IsStackAnalysed}
 use Rattle.stack_laws.specs.Returning.{ComesBack}
-use Rattle.stack_laws.proofs.Laws.{image_laid, image_told, runs_come_back}
+use Rattle.stack_laws.proofs.Laws.{certain_tidy, image_laid, image_told, runs_come_back}
 use Rattle.stack_tables.proofs.Laws.{address_is}
 use Rattle.stack_tables.specs.Tables.{address, claim_stacks, claim_text, claim_values}
 use Rattle.jump_lists.specs.declared.notes.JumpNote.{JumpNote}
@@ -94,6 +94,7 @@ runs_back c is ana comes small levels input n small_input =
     let image : Image = c.claim.now.view.now in
     runs_come_back (text_of image) (setting_of image levels input) (start_of image levels) c.claim.now.graph.now.code (claim_values c.claim.now) (claim_stacks c.claim.now) (image_starts image.file image levels input is.claim.image) ana.reached ana.invariant comes
     (image_laid image c.claim.now.graph.now.code (claim_values c.claim.now) (claim_stacks c.claim.now) ana) (image_told image levels c.claim.now.graph.now.code (claim_values c.claim.now) (claim_stacks c.claim.now) ana) (loaded_small image.file image is.claim.image small) small_input n
+    (certain_tidy (claim_values c.claim.now) (claim_stacks c.claim.now) (setting_of image levels input) (start_of image levels) ana.certain n)
 
 -- nothing is proved of notes without a flag
 pub none_proved : (original lowered : Image) (notes : List JumpNote) (proof : JumpProof) → proof.jumps.items ≡ [] → proof.returns ≡ false → IsProofOf original lowered notes proof

@@ -19,7 +19,7 @@ use Rattle.bound_laws.proofs.Laws.{all_returns, found_kept, kept_before, kept_by
 use Rattle.stack_laws.specs.Stacks.{Stacks}
 use Rattle.stack_laws.specs.Returning.{ComesBack}
 use Rattle.stack_laws.specs.Laws.{IsStackAnalysed}
-use Rattle.stack_laws.proofs.Laws.{image_laid, image_told, runs_come_back}
+use Rattle.stack_laws.proofs.Laws.{certain_tidy, image_laid, image_told, runs_come_back}
 
 some_same : (x y : Carried) → Some x ≡ Some y → x ≡ y
 some_same x y e = let r : x ≡ y = cc in r
@@ -85,3 +85,4 @@ pub returns_back : (file : List ℕ) (image : Image) (levels : ℕ) (input : Lis
 unfolding run_of
 returns_back file image levels input code v w read small_file small_input ana comes n =
     runs_come_back (text_of image) (setting_of image levels input) (start_of image levels) code v w (image_starts file image levels input read) ana.reached ana.invariant comes (image_laid image code v w ana) (image_told image levels code v w ana) (loaded_small file image read small_file) small_input n
+    (certain_tidy v w (setting_of image levels input) (start_of image levels) ana.certain n)

@@ -11,7 +11,7 @@ use Rattle.scale_base.specs.declared.stepping.StepEnd.TheVariants.{Went}
 use Rattle.scale_base.specs.Reading.{instr_of}
 use Rattle.scale_base.specs.State.{Setting, State, reg, word_at}
 use Rattle.scale_base.specs.Step.{step}
-use Rattle.scale_base.specs.Run.{GoesOn, run}
+use Rattle.scale_base.specs.Run.{GoesOn, one_more_by, ended, run}
 use Rattle.cost_theory.specs.Graph.{Graph, Loops, count_step}
 use Rattle.cost_theory.specs.Reached.{Code, IsCodeOf, HasNoBadWord}
 use Rattle.code_text.specs.Text.{Text, instr_at, kind_at}
@@ -25,12 +25,13 @@ use Rattle.graph_runs.specs.KeptRuns.{watched, kept_at}
 use Rattle.graph_runs.proofs.Laws.{went_at, kept_parts}
 use Rattle.bound_laws.specs.Turning.{unasked, Leads}
 use Rattle.bound_laws.specs.Values.{Arc, IsIn, arc, IsRegister, Values, AreBytes, Steps}
-use Rattle.bound_laws.proofs.Laws.{KeptStep, At, Onward, Way, fetched, onward, over_edge, into_call, back_to, along, kept_before, site_small, site_back}
+use Rattle.bound_laws.proofs.Laws.{KeptStep, At, Onward, Way, fetched, onward, over_edge, into_call, back_to, kept_before, site_small, site_back}
 use Rattle.stack_laws.specs.Areas.{IsLaidOut}
 use Rattle.stack_laws.specs.Stacks.{Stacks, View, view_of, IsRestored, IsStackInvariant, AreTold}
 use Rattle.stack_laws.specs.Counting.{Counter, counted, IsKeptBy, IsLeftBy}
 use Rattle.stack_laws.specs.Counting.Counter.{in_registers, in_word}
-use Rattle.stack_laws.proofs.Laws.{Holds, Returned, over_holds, call_holds, back_holds}
+use Rattle.stack_laws.specs.Tidy.{activations, AreKept, IsTidyStep, IsTidy}
+use Rattle.stack_laws.proofs.Laws.{activations_of, along, tidy_before, tidy_step, open_first, open_over, open_call, open_back, Holds, Returned, over_holds, call_holds, back_holds}
 use Rattle.lower_bounds.specs.LowerBounds.{LowerCertificate, IsLowerCertificate, IsLate, IsNever, IsCountedOver, from_on, too_great}
 use Rattle.lower_bounds.specs.Laws.{LowerCertificatesBoundTurns}
 use Rattle.lower_bounds.proofs.Transitions.{counted_on, counted_over, never}
@@ -66,11 +67,16 @@ module _ (t : Text) (env : Setting) (ok : IsTextOf t env) (code : Code) (is : Is
   value begun u = counted c.counter (view_of w begun u.regs u.bytes)
 
   -- a run is where the tables hold, and in a mode of the certificate
-  record Stands (u : State) (calls : List ℕ) (d : Carried) : Type 0 where
+  record Stands (n : ℕ) (u : State) (calls : List ℕ) (d : Carried) : Type 0 where
     begun : List ℕ
     views : List View
     holds : Holds t env ok code is fine v w inv laid input u calls begun views
     mode : Mode c u.pc calls views (d.counts k) (value begun u)
+    opened : activations v env s n ≡ activations_of v u.pc calls begun views
+
+  -- as long as it is tidy
+  abbrev I : ℕ → State → List ℕ → Carried → Type 0
+  I n u calls d = IsTidy v w env s n → Stands n u calls d
 
   -- the count after a step, by where it comes from
   count_by : (u : State) (x : Stepped) → (step env u).end ≡ Went x → (d f : Carried) → counts_after (unasked l) d x ≡ f.counts → f.counts k ≡ count_step (unasked l) (source_of x.moved u.pc d.returns) (Some (step env u).state.pc) d.counts k
@@ -93,9 +99,13 @@ module _ (t : Text) (env : Setting) (ok : IsTextOf t env) (code : Code) (is : Is
 
   -- ---- a step of an instruction that is no call
   module _ (u : State) (rs : List ℕ) (at : At t u rs) (x : Stepped) (went : (step env u).end ≡ Went x) (ons : IsOverText t (step env u).state) (begun : List ℕ) (xs : List View)
-      (now : Holds t env ok code is fine v w inv laid input u at.calls begun xs) (leads : Leads g u.pc (step env u).state.pc) (steps : Steps g u.pc (step env u).state.pc) where
+      (now : Holds t env ok code is fine v w inv laid input u at.calls begun xs) (tidy : IsTidyStep w u.pc (activations_of v u.pc at.calls begun xs) u.bytes (step env u).state.bytes) (leads : Leads g u.pc (step env u).state.pc) (steps : Steps g u.pc (step env u).state.pc) where
     abbrev next : State
     next = (step env u).state
+
+    -- a doubtful step leaves the words that are kept for the function that runs
+    own : w.doubtful u.pc ≡ true → AreKept w u.bytes next.bytes (record { function = v.function u.pc; stack = reg begun 2 })
+    own d = (tidy d).0
 
     there : (i : Instr) × (instr_at t u.pc ≡ Some i)
     there = let q = kind_facts t u.pc (fine at.function u.pc at.reached) in (q.2.0, q.2.1)
@@ -107,17 +117,17 @@ module _ (t : Text) (env : Setting) (ok : IsTextOf t env) (code : Code) (is : Is
     fetch = fetched t env ok code is fine u rs at ∙ there.1
 
     told_next : AreTold v w next.pc (view_of w begun next.regs next.bytes)
-    told_next = (over_holds t env ok code is fine v w inv laid input u rs at x went ons begun xs now leads steps).told
+    told_next = (over_holds t env ok code is fine v w inv laid input u rs at x went ons begun xs now tidy leads steps).told
 
     adds : c.body u.pc ≡ true → value begun next ≤ value begun u + c.adds u.pc
     adds inside = less_added (value begun u) (c.adds u.pc) (value begun next)
-        (counted_on env laid.keyless v w inv.offsets u at.over.zero at.over.size begun now.told now.memory i fetch x went ons.zero ons.size told_next c.counter (c.adds u.pc) cert.registers (cert.effects u.pc next.pc i steps now.told.registers.live inside there.1))
+        (counted_on env laid.keyless v w inv.offsets u at.over.zero at.over.size begun now.told now.memory i fetch x went own ons.zero ons.size told_next c.counter (c.adds u.pc) cert.registers (cert.effects u.pc next.pc i steps now.told.registers.live inside there.1))
 
     within_arc : (b : ℕ) (y : Arc) → next.pc ≡ b → IsCountedOver v w i u.pc b c.counter y → IsIn y (value begun next)
-    within_arc b y same counts = counted_over env laid.keyless v w inv.offsets u at.over.zero at.over.size begun now.told now.memory i fetch x went ons.zero ons.size told_next c.counter y cert.registers (subst (λ n. IsCountedOver v w i u.pc n c.counter y) (sym same) counts)
+    within_arc b y same counts = counted_over env laid.keyless v w inv.offsets u at.over.zero at.over.size begun now.told now.memory i fetch x went own ons.zero ons.size told_next c.counter y cert.registers (subst (λ n. IsCountedOver v w i u.pc n c.counter y) (sym same) counts)
 
     no_way : (b : ℕ) → next.pc ≡ b → IsNever v i u.pc b → ⊥
-    no_way b same h = never env laid.keyless v w inv.offsets u at.over.zero at.over.size begun now.told now.memory i fetch x went ons.zero ons.size told_next (subst (λ n. IsNever v i u.pc n) (sym same) h)
+    no_way b same h = never env laid.keyless v w inv.offsets u at.over.zero at.over.size begun now.told now.memory i fetch x went own ons.zero ons.size told_next (subst (λ n. IsNever v i u.pc n) (sym same) h)
 
     small : next.pc ≡ h → extent u.pc ≡ false → value begun next ≤ c.first
     small same off = ⊎_elim
@@ -135,8 +145,8 @@ module _ (t : Text) (env : Setting) (ok : IsTextOf t env) (code : Code) (is : Is
 
   goes : (n : ℕ) (d f : Carried) (x : Stepped) → KeptStep env s (unasked l) n d f x → (at : At t (run env s n).state d.returns) →
       (on : Onward t env ok code is fine (run env s n).state (step env (run env s n).state).state at.calls f.returns x.moved) →
-      Stands (run env s n).state at.calls d → Stands (step env (run env s n).state).state on.at.calls f
-  goes n d f x kept at on now = by_way on.way
+      I n (run env s n).state at.calls d → I (suc n) (step env (run env s n).state).state on.at.calls f
+  goes n d f x kept at on was tidy = by_way on.way
     where
       u : State
       u = (run env s n).state
@@ -144,52 +154,64 @@ module _ (t : Text) (env : Setting) (ok : IsTextOf t env) (code : Code) (is : Is
       next : State
       next = (step env u).state
 
+      now : Stands n u at.calls d
+      now = was (tidy_before v w env s n tidy)
+
+      this : IsTidyStep w u.pc (activations_of v u.pc at.calls now.begun now.views) u.bytes next.bytes
+      this = tidy_step v w env s n (activations_of v u.pc at.calls now.begun now.views) now.opened kept.state tidy
+
       counted_as : (o : Option ℕ) → source_of x.moved u.pc d.returns ≡ o → f.counts k ≡ count_step (unasked l) o (Some next.pc) d.counts k
       counted_as o e = count_by u x kept.went d f kept.counts ∙ ap (λ q. count_step (unasked l) q (Some next.pc) d.counts k) e
 
-      stands : (calls : List ℕ) (count : ℕ) (begun : List ℕ) (xs : List View) → f.counts k ≡ count → on.at.calls ≡ calls → Holds t env ok code is fine v w inv laid input next calls begun xs → Mode c next.pc calls xs count (value begun next) → Stands next on.at.calls f
-      stands calls count begun xs e q holds m = record {
+      stands : (calls : List ℕ) (count : ℕ) (begun : List ℕ) (xs : List View) → f.counts k ≡ count → on.at.calls ≡ calls → Holds t env ok code is fine v w inv laid input next calls begun xs → Mode c next.pc calls xs count (value begun next) → activations v env s (suc n) ≡ activations_of v next.pc calls begun xs → Stands (suc n) next on.at.calls f
+      stands calls count begun xs e q holds m opened = record {
         begun = begun;
         views = xs;
         holds = subst (λ y. Holds t env ok code is fine v w inv laid input next y begun xs) (sym q) holds;
         mode = subst (λ y. Mode c next.pc on.at.calls xs y (value begun next)) (sym e) (subst (λ y. Mode c next.pc y xs count (value begun next)) (sym q) m);
+        opened = subst (λ y. activations v env s (suc n) ≡ activations_of v next.pc y begun xs) (sym q) opened;
       }
 
-      by_way : Way g u.pc next.pc at.calls on.at.calls x.moved → Stands next on.at.calls f
+      by_way : Way g u.pc next.pc at.calls on.at.calls x.moved → Stands (suc n) next on.at.calls f
       by_way (over_edge leads steps after moved) =
-          let then = over_holds t env ok code is fine v w inv laid input u d.returns at x kept.went on.at.over now.begun now.views now.holds leads steps in
+          let then = over_holds t env ok code is fine v w inv laid input u d.returns at x kept.went on.at.over now.begun now.views now.holds this leads steps in
           stands at.calls (after_edge t g v w h extent trips c cert u.pc next.pc (d.counts k)) now.begun now.views (counted_as (Some u.pc) (ap (λ m. source_of m u.pc d.returns) moved)) after then
           (along_edge t g v w h extent trips c cert u.pc next.pc leads now.holds.told.registers.live at.calls now.views (d.counts k) (value now.begun u) (value now.begun next)
-          (adds u d.returns at x kept.went on.at.over now.begun now.views now.holds leads steps)
-          (small u d.returns at x kept.went on.at.over now.begun now.views now.holds leads steps) now.mode)
+          (adds u d.returns at x kept.went on.at.over now.begun now.views now.holds this leads steps)
+          (small u d.returns at x kept.went on.at.over now.begun now.views now.holds this leads steps) now.mode)
+          (open_over v env s n x at.calls now.begun now.views kept.went moved (inv.functions u.pc next.pc leads) now.opened)
       by_way (into_call call after moved) =
           let seen : View = view_of w now.begun u.regs u.bytes in
-          let then = call_holds t env ok code is fine v w inv laid input u d.returns at x kept.went on.at.over now.begun now.views now.holds moved call in
+          let then = call_holds t env ok code is fine v w inv laid input u d.returns at x kept.went on.at.over now.begun now.views now.holds this moved call in
           stands (u.pc ∷ at.calls) (after_call_to t g v w h extent trips c cert next.pc (d.counts k)) next.regs (seen ∷ now.views) (counted_as None (ap (λ m. source_of m u.pc d.returns) moved)) after then
           (along_call t g v w h extent trips c cert u.pc next.pc call now.holds.told.registers.live at.calls now.views seen (d.counts k) (value next.regs next) at.over.zero now.mode)
+          (open_call v env s w n x at.calls now.begun now.views kept.went moved now.opened)
       by_way (back_to z e to us before after lt from returns call leads moved) =
           let stack : IsStack (kind_at t) t.entry at.function (z ∷ us) = subst (λ y. IsStack (kind_at t) t.entry at.function y) before at.stack in
           let z_small : z < 2 ^ 32 = site_small t env ok code is fine at.function z us stack in
           let source : source_of x.moved u.pc d.returns ≡ Some z =
           ap (λ m. source_of m u.pc d.returns) moved ∙ (ap (λ y. source_of Return u.pc y) (at.returns ∙ ap (map after_call) before) ∙ ap Some (site_back z z_small)) in
-          let b = back_holds t env ok code is fine v w inv laid input u d.returns at x kept.went on.at.over now.begun now.views now.holds z e us before lt from returns leads in
+          let b = back_holds t env ok code is fine v w inv laid input u d.returns at x kept.went on.at.over now.begun now.views now.holds this z e us before lt from returns leads in
           stands us (after_edge t g v w h extent trips c cert z next.pc (d.counts k)) b.0.begun b.1 (counted_as (Some z) source) after b.3
           (along_return t g v w h extent trips c cert u.pc z next.pc b.4.to leads b.4.call b.4.told.registers.live us b.1 b.0 (d.counts k) (value now.begun u) (value b.0.begun next)
           (λ zero_before inside. still c.counter z b.0 next b.4 zero_before on.at.over.zero (cert.calls z b.4.to b.4.call b.4.told.registers.live inside).2)
           (subst (λ y. Mode c u.pc (z ∷ us) y (d.counts k) (value now.begun u)) b.2 (subst (λ y. Mode c u.pc y now.views (d.counts k) (value now.begun u)) before now.mode)))
+          (open_back v env s n x at.calls now.begun now.views z us b.0 b.1 kept.went moved before b.2 (inv.functions z next.pc leads) now.opened)
 
-  begins : Stands s [] carried_first
-  begins = record {
+  begins : I 0 s [] carried_first
+  begins tidy = record {
     begun = s.regs;
     views = [];
     holds = record { told = starts; frames = ap v.function at_entry; memory = bytes };
     mode = at_level (elsewhere (ap c.body at_entry ∙ cert.started) tt);
+    opened = open_first v env s;
   }
 
-  stands_at : (n : ℕ) (d : Carried) → kept_at env s (unasked l) n ≡ Some d → (run env s n).standing ≡ GoesOn → (at : At t (run env s n).state d.returns) × Stands (run env s n).state at.calls d
-  stands_at n d kept e =
-      let all = along t env ok code is fine s over at_entry (unasked l) Stands (λ d. Unit {0}) begins (λ u calls d m. tt) goes n d kept in
-      subst (λ y. StandsBy y ((at : At t (run env s n).state d.returns) × Stands (run env s n).state at.calls d)) e all.1
+  stands_at : (n : ℕ) → IsTidy v w env s n → (d : Carried) → kept_at env s (unasked l) n ≡ Some d → (run env s n).standing ≡ GoesOn → (at : At t (run env s n).state d.returns) × Stands n (run env s n).state at.calls d
+  stands_at n tidy d kept e =
+      let all = along t env ok code is fine s over at_entry (unasked l) I (λ m d. Unit {0}) begins (λ m u calls d h. tt) (λ m d h. h) goes n d kept in
+      let p = subst (λ y. StandsBy y ((at : At t (run env s n).state d.returns) × I n (run env s n).state at.calls d)) e all.1 in
+      (p.0, p.1 tidy)
 
   -- a local step leaves the loop, and its count stays
   leaves_so : (m : Move) (pc to : ℕ) → leaves_by m l pc to k ≡ true → (m ≡ Local) × (extent pc ≡ true) × (extent to ≡ false)
@@ -198,9 +220,9 @@ module _ (t : Text) (env : Setting) (ok : IsTextOf t env) (code : Code) (is : Is
   leaves_so Return pc to h = let bad : ⊥ = cc in absurd bad
 
   -- a step that leaves the loop leaves it late
-  step_late : (u : State) (d f : Carried) (x : Stepped) → (step env u).end ≡ Went x → returns_after d.returns x ≡ Some f.returns → counts_after (unasked l) d x ≡ f.counts → (at : At t u d.returns) → Stands u at.calls d →
+  step_late : (n : ℕ) (u : State) (d f : Carried) (x : Stepped) → (step env u).end ≡ Went x → returns_after d.returns x ≡ Some f.returns → counts_after (unasked l) d x ≡ f.counts → (at : At t u d.returns) (now : Stands n u at.calls d) → IsTidyStep w u.pc (activations_of v u.pc at.calls now.begun now.views) u.bytes (step env u).state.bytes →
       leaves_by x.moved l x.pc x.next k ≡ true → trips ≤ f.counts k
-  step_late u d f x went returns counts at now leaving = by_way on.way
+  step_late n u d f x went returns counts at now this leaving = by_way on.way
     where
       next : State
       next = (step env u).state
@@ -221,7 +243,7 @@ module _ (t : Text) (env : Setting) (ok : IsTextOf t env) (code : Code) (is : Is
 
       by_way : Way g u.pc next.pc at.calls on.at.calls x.moved → trips ≤ f.counts k
       by_way (over_edge leads steps after moved) =
-          subst (λ n. trips ≤ n) (sym same_count) (late u d.returns at x went on.at.over now.begun now.views now.holds leads steps (d.counts k) left.1 left.2 now.mode)
+          subst (λ n. trips ≤ n) (sym same_count) (late u d.returns at x went on.at.over now.begun now.views now.holds this leads steps (d.counts k) left.1 left.2 now.mode)
       by_way (into_call call after moved) = let bad : ⊥ = cc (moved, left.0) in absurd bad
       by_way (back_to z e to us before after lt from returns call leads moved) = let bad : ⊥ = cc (moved, left.0) in absurd bad
 
@@ -232,10 +254,18 @@ more_step env s l n x c d goes went before kept =
     subst (λ o. kept_more l o x ≡ Some d) before
     (subst (λ y. watched l (kept_at env s l n) GoesOn y ≡ Some d) went (subst (λ y. watched l (kept_at env s l n) y (step env (run env s n).state).end ≡ Some d) goes kept))
 
+-- the state behind a step that goes on
+went_state : (env : Setting) (s : State) (n : ℕ) (x : Stepped) → (run env s n).standing ≡ GoesOn → (step env (run env s n).state).end ≡ Went x → (run env s (suc n)).state ≡ (step env (run env s n).state).state
+unfolding run
+went_state env s n x goes went =
+    ap (λ y. (one_more_by env (run env s n) y).state) goes ∙ ap (λ y. (ended (run env s n).steps y (step env (run env s n).state).state).state) went
+
 pub left_late : LowerCertificatesBoundTurns
-left_late t env s code v w l k trips c start reached inv laid starts bytes input cert n d x goes went kept leaving =
+left_late t env s code v w l k trips c start reached inv laid starts bytes input cert n tidy d x goes went kept leaving =
     let b = kept_before env s (unasked l) (suc n) n d (omega arith) kept in
     let more : kept_more (unasked l) (Some b.0) x ≡ Some d = more_step env s (unasked l) n x b.0 d goes went b.1 kept in
     let p = kept_parts (unasked l) (counts_after (unasked l) b.0 x) x (returns_after b.0.returns x) d more in
-    let at = stands_at t env start.text code reached.lists reached.words v w inv laid input s start.state start.entry l k trips c cert starts bytes n b.0 b.1 goes in
-    step_late t env start.text code reached.lists reached.words v w inv laid input s start.state start.entry l k trips c cert starts bytes (run env s n).state b.0 d x went p.0 p.1 at.0 at.1 leaving
+    let at = stands_at t env start.text code reached.lists reached.words v w inv laid input s start.state start.entry l k trips c cert starts bytes n (tidy_before v w env s n tidy) b.0 b.1 goes in
+    let this : IsTidyStep w (run env s n).state.pc (activations_of v (run env s n).state.pc at.0.calls at.1.begun at.1.views) (run env s n).state.bytes (step env (run env s n).state).state.bytes =
+    tidy_step v w env s n (activations_of v (run env s n).state.pc at.0.calls at.1.begun at.1.views) at.1.opened (went_state env s n x goes went) tidy in
+    step_late t env start.text code reached.lists reached.words v w inv laid input s start.state start.entry l k trips c cert starts bytes n (run env s n).state b.0 d x went p.0 p.1 at.0 at.1 this leaving

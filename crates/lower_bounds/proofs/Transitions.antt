@@ -20,6 +20,7 @@ use Rattle.stack_laws.specs.Stacks.{Stacks, View, view_of, word_address, IsNamed
 use Rattle.stack_laws.specs.Stacks.Name.{of_word}
 use Rattle.stack_laws.specs.Counting.{Counter, counted, HasRegisters, IsAdded}
 use Rattle.stack_laws.specs.Counting.Counter.{in_registers, in_word}
+use Rattle.stack_laws.specs.Tidy.{AreKept}
 use Rattle.stack_laws.proofs.Laws.{misses, puts}
 use Rattle.lower_bounds.specs.LowerBounds.{says_same, is_same, IsSumAt, IsSumOver, IsWordOver, IsCountedOver, IsNever}
 use Rattle.lower_bounds.proofs.Naming.{named_at}
@@ -76,6 +77,7 @@ word_moved shift factor before after more e is adds =
 
 module _ (env : Setting) (keyless : env.layout.keyed ≡ None) (v : Values) (w : Stacks) (offsets : (k : ℕ) → w.offset k < 2 ^ 32) (s : State) (zero_is : reg s.regs 0 ≡ 0) (size : length s.regs ≡ 32) (begun : List ℕ)
     (told : AreTold v w s.pc (view_of w begun s.regs s.bytes)) (memory : AreBytes s.bytes) (i : Instr) (here : instr_of (word_at s.bytes s.pc) ≡ Some i) (x : Stepped) (went : (step env s).end ≡ Went x)
+    (own : w.doubtful s.pc ≡ true → AreKept w s.bytes (step env s).state.bytes (record { function = v.function s.pc; stack = reg begun 2 }))
     (zero_after : reg (step env s).state.regs 0 ≡ 0) (size_after : length (step env s).state.regs ≡ 32)
     (known : AreTold v w (step env s).state.pc (view_of w begun (step env s).state.regs (step env s).state.bytes)) where
   abbrev after : State
@@ -160,7 +162,7 @@ module _ (env : Setting) (keyless : env.layout.keyed ≡ None) (v : Values) (w :
   tied_word k r more missed is keep name =
       let named : IsNamed (Some (of_word k more)) seen (reg s.regs r) = subst (λ n. IsNamed n seen (reg s.regs r)) name (told.names r is) in
       let left : IsHeld (behind r) (reg s.regs r) = subst (IsHeld (behind r)) (steps_leave env s i r here keep) (holds r is) in
-      let word : plus (reg s.regs r) (opposite_of more) ≡ then.words k = taken_back (reg s.regs r) (seen.words k) more named.0 (word_small s.bytes (word_address w begun k) memory) ∙ sym (misses env keyless v w offsets s zero_is size begun told i here k missed) in
+      let word : plus (reg s.regs r) (opposite_of more) ≡ then.words k = taken_back (reg s.regs r) (seen.words k) more named.0 (word_small s.bytes (word_address w begun k) memory) ∙ sym (misses env keyless v w offsets s zero_is size begun told i here own k missed) in
       subst (IsHeld (sum_with (behind r) (opposite_of more))) word (sum_with_in (behind r) (opposite_of more) (reg s.regs r) left)
 
   word_over : (k : ℕ) (z : Option Arc) → IsWordOver v w i s.pc after.pc k z → IsHeld z (then.words k)
@@ -168,7 +170,7 @@ module _ (env : Setting) (keyless : env.layout.keyed ≡ None) (v : Values) (w :
       (λ (q : z ≡ w.word after.pc k). subst (λ y. IsHeld y (then.words k)) (sym q) (known.words k))
       (λ (some : (IsMissed v w s.pc i k × (z ≡ w.word s.pc k)) ⊎ ((r : ℕ) × IsStoredFrom w s.pc i k r × (z ≡ held (v.at s.pc) r)) ⊎ ((r : ℕ) × (more : ℕ) × IsMissed v w s.pc i k × IsRegister r × (keeps r i ≡ true) × (w.name s.pc r ≡ Some (of_word k more)) × (z ≡ sum_with (behind r) (opposite_of more)))). ⊎_elim
       (λ (q : IsMissed v w s.pc i k × (z ≡ w.word s.pc k)).
-      subst (λ y. IsHeld y (then.words k)) (sym q.1) (subst (IsHeld (w.word s.pc k)) (sym (misses env keyless v w offsets s zero_is size begun told i here k q.0)) (told.words k)))
+      subst (λ y. IsHeld y (then.words k)) (sym q.1) (subst (IsHeld (w.word s.pc k)) (sym (misses env keyless v w offsets s zero_is size begun told i here own k q.0)) (told.words k)))
       (λ (rest : ((r : ℕ) × IsStoredFrom w s.pc i k r × (z ≡ held (v.at s.pc) r)) ⊎ ((r : ℕ) × (more : ℕ) × IsMissed v w s.pc i k × IsRegister r × (keeps r i ≡ true) × (w.name s.pc r ≡ Some (of_word k more)) × (z ≡ sum_with (behind r) (opposite_of more)))). ⊎_elim
       (λ (q : (r : ℕ) × IsStoredFrom w s.pc i k r × (z ≡ held (v.at s.pc) r)).
       subst (λ y. IsHeld y (then.words k)) (sym q.2)
@@ -193,7 +195,7 @@ module _ (env : Setting) (keyless : env.layout.keyed ≡ None) (v : Values) (w :
   pub counted_on : (c : Counter) (e : ℕ) → HasRegisters c → IsAdded v w c s.pc i e → counted c then ≡ (counted c seen + e) % 2 ^ 32
   counted_on (in_registers m) e small does = adds m e small does
   counted_on (in_word k factor shift) e small does = ⊎_elim
-      (λ (q : IsMissed v w s.pc i k × (e ≡ 0)). word_left shift factor (seen.words k) (then.words k) e (misses env keyless v w offsets s zero_is size begun told i here k q.0) q.1)
+      (λ (q : IsMissed v w s.pc i k × (e ≡ 0)). word_left shift factor (seen.words k) (then.words k) e (misses env keyless v w offsets s zero_is size begun told i here own k q.0) q.1)
       (λ (q : (r : ℕ) × (more : ℕ) × IsStoredFrom w s.pc i k r × (name_of w s.pc r ≡ Some (of_word k more)) × (e ≡ factor * more % 2 ^ 32)).
       let named : IsNamed (Some (of_word k q.1)) seen (reg s.regs q.0) = subst (λ n. IsNamed n seen (reg s.regs q.0)) q.3 (named_at v w s.pc seen told q.0) in
       word_moved shift factor (seen.words k) (then.words k) q.1 e (puts env keyless v w offsets s zero_is size begun told i here x went k q.0 q.2 ∙ named.0) q.4) does

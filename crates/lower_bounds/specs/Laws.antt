@@ -17,17 +17,19 @@ use Rattle.bound_laws.specs.Turning.{unasked}
 use Rattle.bound_laws.specs.Values.{Values, AreBytes}
 use Rattle.stack_laws.specs.Areas.{IsLaidOut}
 use Rattle.stack_laws.specs.Stacks.{Stacks, view_of, IsStackInvariant, AreTold}
+use Rattle.stack_laws.specs.Tidy.{IsTidy}
 use Rattle.stack_laws.specs.Laws.{IsStackAnalysed}
 use Rattle.lower_bounds.specs.LowerBounds.{LowerCertificate, IsLowerCertificate, IsLowerShown}
 
--- As long as the returns of a run go back to their calls, a step that leaves a loop with a certificate leaves it after so many turns at least.
+-- As long as a run is tidy and its returns go back to their calls, a step that leaves a loop with a certificate leaves it after so many turns
+-- at least.
 abbrev pub LowerCertificatesBoundTurns : Type 0
 LowerCertificatesBoundTurns = (t : Text) (env : Setting) (s : State) (code : Code) (v : Values) (w : Stacks) (l : Loops) (k trips : ℕ)
     (c : LowerCertificate) → IsStartOver t env s → IsReachedCode t code →
     IsStackInvariant t (text_graph t code) v w → IsLaidOut env.layout w.areas w.fixed → AreTold v w s.pc (view_of w s.regs s.regs s.bytes) →
     AreBytes s.bytes → All (λ x. x < 256) env.input →
     IsLowerCertificate t (text_graph t code) v w (l.header k) (l.inside k) trips c →
-    (n : ℕ) (d : Carried) (x : Stepped) → (run env s n).standing ≡ GoesOn → (step env (run env s n).state).end ≡ Went x →
+    (n : ℕ) → IsTidy v w env s (suc n) → (d : Carried) (x : Stepped) → (run env s n).standing ≡ GoesOn → (step env (run env s n).state).end ≡ Went x →
     kept_at env s (unasked l) (suc n) ≡ Some d →
     leaves_by x.moved l x.pc x.next k ≡ true → trips ≤ d.counts k
 

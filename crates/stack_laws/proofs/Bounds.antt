@@ -26,8 +26,10 @@ use Rattle.stack_laws.specs.Areas.{IsLaidOut}
 use Rattle.stack_laws.specs.Stacks.{name_span, IsSpanned, Stacks, View, view_of, IsNamed, IsStackInvariant, AreTold}
 use Rattle.stack_laws.specs.Stacks.Name.{of_begin}
 use Rattle.stack_laws.specs.Counting.{IsShown}
+use Rattle.stack_laws.specs.Tidy.{IsCertain}
 use Rattle.stack_laws.specs.Laws.{IsStackAnalysed, ShownBoundsAreKept, ShownBoundsAreKeptByReturns, RunsAreKept}
 use Rattle.stack_laws.proofs.Naming.{begun_named, spanned_covers, span_named}
+use Rattle.stack_laws.proofs.Tidy.{certain_tidy}
 use Rattle.stack_laws.proofs.Returning.{runs_come_back}
 use Rattle.stack_laws.proofs.Counts.{stacks_bound_turns}
 
@@ -41,10 +43,10 @@ same_leaving l bounds Call pc next k = refl
 same_leaving l bounds Return pc next k = refl
 
 module _ (t : Text) (env : Setting) (s : State) (code : Code) (v : Values) (w : Stacks) (l : Loops) (start : IsStartOver t env s) (reached : IsReachedCode t code) (inv : IsStackInvariant t (text_graph t code) v w)
-    (laid : IsLaidOut env.layout w.areas w.fixed) (starts : AreTold v w s.pc (view_of w s.regs s.regs s.bytes)) (bytes : AreBytes s.bytes) (input : All (λ x. x < 256) env.input) where
+    (laid : IsLaidOut env.layout w.areas w.fixed) (starts : AreTold v w s.pc (view_of w s.regs s.regs s.bytes)) (bytes : AreBytes s.bytes) (input : All (λ x. x < 256) env.input) (certain : IsCertain w) where
   bounded : (k : ℕ) → IsShown t (text_graph t code) v w l k → (n : ℕ) (d : Carried) → kept_at env s (unasked l) n ≡ Some d → d.counts k ≤ l.bound k
   bounded k has n d kept = few_turns (d.counts k) has.certificate.least has.certificate.width (l.bound k) has.positive
-      (stacks_bound_turns t env s code v w l k has.certificate start reached inv laid starts bytes input has.is has.within n d kept) has.enough
+      (stacks_bound_turns t env s code v w l k has.certificate start reached inv laid starts bytes input has.is has.within n (certain_tidy v w env s certain n) d kept) has.enough
 
   pub kept_by_shown : ((k : ℕ) → k < l.loops → IsShown t (text_graph t code) v w l k × (l.least_trips k ≡ 0)) → (n : ℕ) (d : Carried) → kept_at env s (unasked l) n ≡ Some d → kept_at env s l n ≡ Some d
   kept_by_shown has n d kept = kept_too l (unasked l) (λ c x. refl) env s
@@ -118,7 +120,7 @@ shown_kept file image levels input code v w l bounds read small_file small_input
     s = start_of image levels
 
     by : (m : ℕ) (d : Carried) → kept_at env s (with_bounds l bounds) m ≡ Some d → kept_at env s l m ≡ Some d
-    by m d h = kept_by_bounds (text_of image) env s code v w l (image_starts file image levels input read) ana.reached ana.invariant (image_laid image code v w ana) (image_told image levels code v w ana) (loaded_small file image read small_file) small_input bounds which m d h
+    by m d h = kept_by_bounds (text_of image) env s code v w l (image_starts file image levels input read) ana.reached ana.invariant (image_laid image code v w ana) (image_told image levels code v w ana) (loaded_small file image read small_file) small_input ana.certain bounds which m d h
 
 pub shown_by_returns : ShownBoundsAreKeptByReturns
 unfolding run_of
@@ -139,7 +141,7 @@ shown_by_returns file image levels input code v w l read small_file small_input 
     s = start_of image levels
 
     by : (m : ℕ) (d : Carried) → kept_at env s (unasked l) m ≡ Some d → kept_at env s l m ≡ Some d
-    by m d h = kept_by_shown (text_of image) env s code v w l (image_starts file image levels input read) ana.reached ana.invariant (image_laid image code v w ana) (image_told image levels code v w ana) (loaded_small file image read small_file) small_input which m d h
+    by m d h = kept_by_shown (text_of image) env s code v w l (image_starts file image levels input read) ana.reached ana.invariant (image_laid image code v w ana) (image_told image levels code v w ana) (loaded_small file image read small_file) small_input ana.certain which m d h
 
     here : (m : ℕ) → m ≤ n → (d : Carried) × (kept_at env s l m ≡ Some d) × (length d.returns ≤ most_returns)
     here m le =
@@ -151,4 +153,5 @@ pub runs_kept : RunsAreKept
 unfolding run_of
 runs_kept file image levels input code v w l read small_file small_input ana comes which n =
     shown_by_returns file image levels input code v w l read small_file small_input ana which n (λ m le.
-    runs_come_back (text_of image) (setting_of image levels input) (start_of image levels) code v w (image_starts file image levels input read) ana.reached ana.invariant comes (image_laid image code v w ana) (image_told image levels code v w ana) (loaded_small file image read small_file) small_input m)
+    runs_come_back (text_of image) (setting_of image levels input) (start_of image levels) code v w (image_starts file image levels input read) ana.reached ana.invariant comes (image_laid image code v w ana) (image_told image levels code v w ana) (loaded_small file image read small_file) small_input m
+    (certain_tidy v w (setting_of image levels input) (start_of image levels) ana.certain m))

@@ -1,5 +1,5 @@
 -- A loop with a certificate over the stack turns no more often than the width allows.
-use Rattle.std.proofs.Common.{◌≡◌, ℕ, ◌+◌, ◌-◌, ◌*◌, ◌<◌, ◌≤◌, ◌%◌, ◌^◌, ⊎_elim, Bool, true, false, List, [], ◌∷◌, length, map, refl, sym, ap, ◌∙◌, subst, arith, Option, Some, None}
+use Rattle.std.proofs.Common.{◌≡◌, ℕ, suc, ◌+◌, ◌-◌, ◌*◌, ◌<◌, ◌≤◌, ◌%◌, ◌^◌, ⊎_elim, Bool, true, false, List, [], ◌∷◌, length, map, refl, sym, ap, ◌∙◌, subst, arith, Option, Some, None}
 use Rattle.std.specs.Prelude.{All}
 use Rattle.std.proofs.lemmas.Nat.{mod_below}
 use Rattle.std.proofs.Math.Nat.{mod-add-mod}
@@ -21,13 +21,16 @@ use Rattle.graph_runs.proofs.Laws.{went_at}
 use Rattle.bound_laws.specs.Registers.{measured}
 use Rattle.bound_laws.specs.Turning.{unasked}
 use Rattle.bound_laws.specs.Values.{Arc, arc, IsHeld, IsRegister, Covers, sum_with, scaled, line_of, Values, AreBytes}
-use Rattle.bound_laws.proofs.Laws.{no_turns, in_covers, sum_with_in, scaled_in, held_of, line_in, measured_small, At, Way, Onward, site_small, over_edge, into_call, back_to, KeptStep, along, site_back}
+use Rattle.bound_laws.proofs.Laws.{no_turns, in_covers, sum_with_in, scaled_in, held_of, line_in, measured_small, At, Way, Onward, site_small, over_edge, into_call, back_to, KeptStep, site_back}
 use Rattle.stack_laws.specs.Areas.{IsLaidOut}
 use Rattle.stack_laws.specs.Stacks.{Stacks, View, view_of, IsRestored, IsStackInvariant, AreTold}
 use Rattle.stack_laws.specs.Counting.{Counter, counted, IsLeftBy, IsKeptBy, StackCertificate, IsStackCertificate, IsWithin}
 use Rattle.stack_laws.specs.Counting.Counter.{in_registers, in_word}
+use Rattle.stack_laws.specs.Tidy.{activations, IsTidyStep, IsTidy}
 use Rattle.stack_laws.specs.Laws.{StackCertificatesBoundTurns}
 use Rattle.stack_laws.proofs.Naming.{measured_alike}
+use Rattle.stack_laws.proofs.Tidy.{activations_of, tidy_before, tidy_step, open_first, open_over, open_call, open_back}
+use Rattle.stack_laws.proofs.Inductions.{along}
 use Rattle.stack_laws.proofs.Runs.{Holds, Returned, over_holds, call_holds, back_holds, counts_on}
 use Rattle.stack_laws.proofs.Turns.{Level, Mode, turned, at_header, along_edge, along_call, along_return, after_edge, after_call_to}
 use Rattle.stack_laws.proofs.Turns.Mode.{at_level}
@@ -68,11 +71,16 @@ module _ (t : Text) (env : Setting) (ok : IsTextOf t env) (code : Code) (is : Is
   value begun u = counted c.counter (view_of w begun u.regs u.bytes)
 
   -- a run is where the tables hold, and in a mode of the certificate
-  record Stands (u : State) (calls : List ℕ) (d : Carried) : Type 0 where
+  record Stands (n : ℕ) (u : State) (calls : List ℕ) (d : Carried) : Type 0 where
     begun : List ℕ
     views : List View
     holds : Holds t env ok code is fine v w inv laid input u calls begun views
     mode : Mode c u.pc calls views (d.counts k) (value begun u)
+    opened : activations v env s n ≡ activations_of v u.pc calls begun views
+
+  -- as long as it is tidy
+  abbrev I : ℕ → State → List ℕ → Carried → Type 0
+  I n u calls d = IsTidy v w env s n → Stands n u calls d
 
   -- the count after a step, by where it comes from
   count_is : (n : ℕ) (d f : Carried) (x : Stepped) → KeptStep env s (unasked l) n d f x → f.counts k ≡ count_step (unasked l) (source_of x.moved (run env s n).state.pc d.returns) (Some (step env (run env s n).state).state.pc) d.counts k
@@ -95,14 +103,20 @@ module _ (t : Text) (env : Setting) (ok : IsTextOf t env) (code : Code) (is : Is
 
   goes : (n : ℕ) (d f : Carried) (x : Stepped) → KeptStep env s (unasked l) n d f x → (at : At t (run env s n).state d.returns) →
       (on : Onward t env ok code is fine (run env s n).state (step env (run env s n).state).state at.calls f.returns x.moved) →
-      Stands (run env s n).state at.calls d → Stands (step env (run env s n).state).state on.at.calls f
-  goes n d f x kept at on now = by_way on.way
+      I n (run env s n).state at.calls d → I (suc n) (step env (run env s n).state).state on.at.calls f
+  goes n d f x kept at on was tidy = by_way on.way
     where
       u : State
       u = (run env s n).state
 
       next : State
       next = (step env u).state
+
+      now : Stands n u at.calls d
+      now = was (tidy_before v w env s n tidy)
+
+      this : IsTidyStep w u.pc (activations_of v u.pc at.calls now.begun now.views) u.bytes next.bytes
+      this = tidy_step v w env s n (activations_of v u.pc at.calls now.begun now.views) now.opened kept.state tidy
 
       h : ℕ
       h = l.header k
@@ -117,44 +131,48 @@ module _ (t : Text) (env : Setting) (ok : IsTextOf t env) (code : Code) (is : Is
       small : (calls : List ℕ) (begun : List ℕ) (xs : List View) → Holds t env ok code is fine v w inv laid input next calls begun xs → next.pc ≡ h → value begun next ≤ c.width
       small calls begun xs holds e = within_width v w c.width next.pc c.counter (view_of w begun next.regs next.bytes) on.at.over.zero on.at.over.size holds.told (subst (IsWithin v w c.width c.counter) (sym e) shown)
 
-      stands : (calls : List ℕ) (count : ℕ) (begun : List ℕ) (xs : List View) → f.counts k ≡ count → on.at.calls ≡ calls → Holds t env ok code is fine v w inv laid input next calls begun xs → Mode c next.pc calls xs count (value begun next) → Stands next on.at.calls f
-      stands calls count begun xs e q holds m = record {
+      stands : (calls : List ℕ) (count : ℕ) (begun : List ℕ) (xs : List View) → f.counts k ≡ count → on.at.calls ≡ calls → Holds t env ok code is fine v w inv laid input next calls begun xs → Mode c next.pc calls xs count (value begun next) → activations v env s (suc n) ≡ activations_of v next.pc calls begun xs → Stands (suc n) next on.at.calls f
+      stands calls count begun xs e q holds m opened = record {
         begun = begun;
         views = xs;
         holds = subst (λ y. Holds t env ok code is fine v w inv laid input next y begun xs) (sym q) holds;
         mode = subst (λ y. Mode c next.pc on.at.calls xs y (value begun next)) (sym e) (subst (λ y. Mode c next.pc y xs count (value begun next)) (sym q) m);
+        opened = subst (λ y. activations v env s (suc n) ≡ activations_of v next.pc y begun xs) (sym q) opened;
       }
 
-      by_way : Way g u.pc next.pc at.calls on.at.calls x.moved → Stands next on.at.calls f
+      by_way : Way g u.pc next.pc at.calls on.at.calls x.moved → Stands (suc n) next on.at.calls f
       by_way (over_edge leads steps after moved) =
-          let then = over_holds t env ok code is fine v w inv laid input u d.returns at x kept.went on.at.over now.begun now.views now.holds leads steps in
+          let then = over_holds t env ok code is fine v w inv laid input u d.returns at x kept.went on.at.over now.begun now.views now.holds this leads steps in
           stands at.calls (after_edge t g v w h (l.inside k) c cert u.pc next.pc (d.counts k)) now.begun now.views (counted_as (Some u.pc) (ap (λ m. source_of m u.pc d.returns) moved)) after then
           (along_edge t g v w h (l.inside k) c cert u.pc next.pc leads now.holds.told.registers.live at.calls now.views (d.counts k) (value now.begun u) (value now.begun next)
           (counted_small c.counter (view_of w now.begun next.regs next.bytes))
-          (λ inside. counts_on t env ok code is fine v w inv laid input u d.returns at x kept.went on.at.over now.begun now.views now.holds c.counter (c.adds u.pc) cert.registers
+          (λ inside. counts_on t env ok code is fine v w inv laid input u d.returns at x kept.went on.at.over now.begun now.views now.holds this c.counter (c.adds u.pc) cert.registers
           (λ j here. cert.effects u.pc next.pc j steps now.holds.told.registers.live inside here))
           (small at.calls now.begun now.views then) now.mode)
+          (open_over v env s n x at.calls now.begun now.views kept.went moved (inv.functions u.pc next.pc leads) now.opened)
       by_way (into_call call after moved) =
           let seen : View = view_of w now.begun u.regs u.bytes in
-          let then = call_holds t env ok code is fine v w inv laid input u d.returns at x kept.went on.at.over now.begun now.views now.holds moved call in
+          let then = call_holds t env ok code is fine v w inv laid input u d.returns at x kept.went on.at.over now.begun now.views now.holds this moved call in
           stands (u.pc ∷ at.calls) (after_call_to t g v w h (l.inside k) c cert next.pc (d.counts k)) next.regs (seen ∷ now.views) (counted_as None (ap (λ m. source_of m u.pc d.returns) moved)) after then
           (along_call t g v w h (l.inside k) c cert u.pc next.pc call now.holds.told.registers.live at.calls now.views seen (d.counts k) (value next.regs next)
           (counted_small c.counter (view_of w next.regs next.regs next.bytes)) at.over.zero (small (u.pc ∷ at.calls) next.regs (seen ∷ now.views) then) now.mode)
+          (open_call v env s w n x at.calls now.begun now.views kept.went moved now.opened)
       by_way (back_to z e to us before after lt from returns call leads moved) =
           let stack : IsStack (kind_at t) t.entry at.function (z ∷ us) = subst (λ y. IsStack (kind_at t) t.entry at.function y) before at.stack in
           let z_small : z < 2 ^ 32 = site_small t env ok code is fine at.function z us stack in
           let source : source_of x.moved u.pc d.returns ≡ Some z =
           ap (λ m. source_of m u.pc d.returns) moved ∙ (ap (λ y. source_of Return u.pc y) (at.returns ∙ ap (map after_call) before) ∙ ap Some (site_back z z_small)) in
-          let b = back_holds t env ok code is fine v w inv laid input u d.returns at x kept.went on.at.over now.begun now.views now.holds z e us before lt from returns leads in
+          let b = back_holds t env ok code is fine v w inv laid input u d.returns at x kept.went on.at.over now.begun now.views now.holds this z e us before lt from returns leads in
           stands us (after_edge t g v w h (l.inside k) c cert z next.pc (d.counts k)) b.0.begun b.1 (counted_as (Some z) source) after b.3
           (along_return t g v w h (l.inside k) c cert u.pc z next.pc b.4.to leads b.4.call b.4.told.registers.live us b.1 b.0 (d.counts k) (value now.begun u) (value b.0.begun next)
           (counted_small c.counter (view_of w b.0.begun next.regs next.bytes))
           (λ zero_before inside. still c.counter z b.0 next b.4 zero_before on.at.over.zero (cert.calls z b.4.to b.4.call b.4.told.registers.live inside).2)
           (small us b.0.begun b.1 b.3)
           (subst (λ y. Mode c u.pc (z ∷ us) y (d.counts k) (value now.begun u)) b.2 (subst (λ y. Mode c u.pc y now.views (d.counts k) (value now.begun u)) before now.mode)))
+          (open_back v env s n x at.calls now.begun now.views z us b.0 b.1 kept.went moved before b.2 (inv.functions z next.pc leads) now.opened)
 
-  begins : Stands s [] carried_first
-  begins = record { begun = s.regs; views = []; holds = record { told = starts; frames = ap v.function at_entry; memory = bytes }; mode = at_level (go (c.body s.pc) refl) }
+  begins : I 0 s [] carried_first
+  begins tidy = record { begun = s.regs; views = []; holds = record { told = starts; frames = ap v.function at_entry; memory = bytes }; mode = at_level (go (c.body s.pc) refl); opened = open_first v env s }
     where
       go : (b : Bool) → c.body s.pc ≡ b → Level c s.pc [] 0 (value s.regs s)
       go false out = elsewhere out tt (no_turns c.least c.width)
@@ -165,10 +183,11 @@ module _ (t : Text) (env : Setting) (ok : IsTextOf t env) (code : Code) (is : Is
           (within_width v w c.width s.pc c.counter (view_of w s.regs s.regs s.bytes) over.zero over.size starts (subst (IsWithin v w c.width c.counter) (sym here) shown))
           (no_turns c.least (value s.regs s)) [] tt)
 
-  pub counts_within : (n : ℕ) (d : Carried) → kept_at env s (unasked l) n ≡ Some d → d.counts k * c.least ≤ c.width
-  counts_within n d kept = (along t env ok code is fine s over at_entry (unasked l) Stands (λ d. d.counts k * c.least ≤ c.width) begins
-      (λ u calls d m. turned c u.pc calls m.views (d.counts k) (value m.begun u) m.mode) goes n d kept).0
+  pub counts_within : (n : ℕ) → IsTidy v w env s n → (d : Carried) → kept_at env s (unasked l) n ≡ Some d → d.counts k * c.least ≤ c.width
+  counts_within n tidy d kept = (along t env ok code is fine s over at_entry (unasked l) I (λ m d. IsTidy v w env s m → d.counts k * c.least ≤ c.width) begins
+      (λ m u calls d stands tidy. let at = stands tidy in turned c u.pc calls at.views (d.counts k) (value at.begun u) at.mode)
+      (λ m d few tidy. few (tidy_before v w env s m tidy)) goes n d kept).0 tidy
 
 pub stacks_bound_turns : StackCertificatesBoundTurns
-stacks_bound_turns t env s code v w l k c start reached inv laid starts bytes input cert shown n d kept =
-    counts_within t env start.text code reached.lists reached.words v w inv laid input s start.state start.entry l k c cert shown starts bytes n d kept
+stacks_bound_turns t env s code v w l k c start reached inv laid starts bytes input cert shown n tidy d kept =
+    counts_within t env start.text code reached.lists reached.words v w inv laid input s start.state start.entry l k c cert shown starts bytes n tidy d kept

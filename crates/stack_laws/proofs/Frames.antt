@@ -18,6 +18,7 @@ use Rattle.bound_laws.specs.Values.{Arc, word, IsIn, IsHeld, Covers, sum_with, o
 use Rattle.bound_laws.proofs.Laws.{only_one, in_covers, in_word, sum_with_in, held_of, line_in}
 use Rattle.stack_laws.specs.Cells.{IsCellHeld}
 use Rattle.stack_laws.specs.Fixed.{AreFixedIn}
+use Rattle.stack_laws.specs.Tidy.{Activation, IsTidyStep}
 use Rattle.stack_laws.specs.Areas.{IsAccessedIn, IsCoveredByAccess, IsSolvedByAccess}
 use Rattle.stack_laws.specs.Telling.{IsTelling, IsToldTo}
 use Rattle.stack_laws.specs.Digits.{IsDwindling, IsLimitedBy}
@@ -58,6 +59,12 @@ turned_round a b = omega arith
 two_is : IsRegister 2
 two_is = (omega arith, omega arith)
 
+-- the activations that wait, by the calls that are open and what their functions saw before them
+abbrev pub waiting : Values → List ℕ → List View → List Activation
+waiting v [] xs = []
+waiting v (u ∷ us) [] = []
+waiting v (u ∷ us) (x ∷ xs) = record { function = v.function u; stack = reg x.begun 2 } ∷ waiting v us xs
+
 module _ (t : Text) (g : Graph) (v : Values) (w : Stacks) (inv : IsStackInvariant t g v w) where
   -- the call at u is open, before which the function that calls saw this, and the run is at pc in the called function, or where the next
   -- call within it is
@@ -79,9 +86,9 @@ module _ (t : Text) (g : Graph) (v : Values) (w : Stacks) (inv : IsStackInvarian
   Frames pc begun bytes (u ∷ us) [] = ⊥
   Frames pc begun bytes (u ∷ us) (x ∷ xs) = Frame pc begun bytes u x × Frames u x.begun bytes us xs
 
-  -- memory changes, but not in words of the functions that wait
-  abbrev pub IsLeft : ℕ → List ℕ → (ℕ → ℕ) → (ℕ → ℕ) → Type 0
-  IsLeft a begun before after = (k q : ℕ) → w.spared k a ≡ true → IsHeld (w.place k) q → q < 2 ^ 32 → reg begun 2 ≤ q → word_at after q ≡ word_at before q
+  -- memory changes by an instruction at c, but not in words of the functions that wait, where it is either not doubtful or leaves them
+  abbrev pub IsLeft : ℕ → ℕ → List ℕ → (ℕ → ℕ) → (ℕ → ℕ) → Type 0
+  IsLeft a c begun before after = (k q : ℕ) → w.spared k a ≡ true → IsHeld (w.place k) q → q < 2 ^ 32 → reg begun 2 ≤ q → (w.doubtful c ≡ true → word_at after q ≡ word_at before q) → word_at after q ≡ word_at before q
 
   -- x2 is at most what it was when the function began
   descends : (u : ℕ) (x : View) (more : ℕ) → AreTold v w u x → IsDescending v w u more → (reg x.begun 2 < 2 ^ 32) × (opposite_of more ≤ reg x.begun 2) × (reg x.regs 2 ≡ plus (reg x.begun 2) more) × (reg x.regs 2 ≤ reg x.begun 2)
@@ -93,11 +100,11 @@ module _ (t : Text) (g : Graph) (v : Values) (w : Stacks) (inv : IsStackInvarian
       let low : plus (reg x.begun 2) more + 0 ≤ reg x.begun 2 = b.2 in
       (b.0, b.1, e, (let f = e in let r : reg x.regs 2 ≤ reg x.begun 2 = omega arith in r))
 
-  frames_left : (pc : ℕ) (begun : List ℕ) (before after : ℕ → ℕ) (calls : List ℕ) (xs : List View) → IsLeft pc begun before after → Frames pc begun before calls xs → Frames pc begun after calls xs
-  frames_left pc begun before after [] [] left fs = fs
-  frames_left pc begun before after [] (x ∷ xs) left fs = fs
-  frames_left pc begun before after (u ∷ us) [] left fs = fs
-  frames_left pc begun before after (u ∷ us) (x ∷ xs) left fs = (now, frames_left u x.begun before after us xs outer fs.1)
+  frames_left : (pc c : ℕ) (begun : List ℕ) (before after : ℕ → ℕ) (calls : List ℕ) (xs : List View) → IsLeft pc c begun before after → IsTidyStep w c (waiting v calls xs) before after → Frames pc begun before calls xs → Frames pc begun after calls xs
+  frames_left pc c begun before after [] [] left tidy fs = fs
+  frames_left pc c begun before after [] (x ∷ xs) left tidy fs = fs
+  frames_left pc c begun before after (u ∷ us) [] left tidy fs = fs
+  frames_left pc c begun before after (u ∷ us) (x ∷ xs) left tidy fs = (now, frames_left u c x.begun before after us xs outer (λ d. (tidy d).1) fs.1)
     where
       f : Frame pc begun before u x
       f = fs.0
@@ -108,12 +115,12 @@ module _ (t : Text) (g : Graph) (v : Values) (w : Stacks) (inv : IsStackInvarian
           let above : plus (reg x.begun 2) safe.more ≤ word_address w x.begun k = above_below (reg x.begun 2) safe.more (w.offset k) d.0 d.1 safe.above in
           let e : reg begun 2 ≡ plus (reg x.begun 2) safe.more = f.stack ∙ d.2 in
           let place : IsHeld (w.place k) (word_address w x.begun k) = in_covers (sum_with (w.begins (v.function u)) (w.offset k)) (w.place k) (word_address w x.begun k) (sum_with_in (w.begins (v.function u)) (w.offset k) (reg x.begun 2) f.told.begins) safe.place in
-          left k (word_address w x.begun k) (f.spared k safe.spared) place (plus_small (reg x.begun 2) (w.offset k)) (subst (λ n. n ≤ word_address w x.begun k) (sym e) above) ∙ f.same k safe
+          left k (word_address w x.begun k) (f.spared k safe.spared) place (plus_small (reg x.begun 2) (w.offset k)) (subst (λ n. n ≤ word_address w x.begun k) (sym e) above) (λ d. (tidy d).0 k safe.kept) ∙ f.same k safe
 
       now : Frame pc begun after u x
       now = record { to = f.to; call = f.call; function = f.function; told = f.told; left = f.left; stack = f.stack; link = f.link; spared = f.spared; same = kept }
 
-      outer : IsLeft u x.begun before after
+      outer : IsLeft u c x.begun before after
       outer k q spared place small above =
           let c = inv.spared_calls k u f.to f.call f.told.registers.live spared in
           let d = descends u x c.1 f.told c.2 in
@@ -156,7 +163,7 @@ module _ (t : Text) (g : Graph) (v : Values) (w : Stacks) (inv : IsStackInvarian
       (name_held : (r : ℕ) → IsNamed (name_of w a r) (view_of w begun before bytes) (reg before r))
       (span_held : (r : ℕ) → IsSpanned (span_of w a r) (view_of w begun before bytes) (reg before r))
       (results : (op : RegOp) (r rs1 rs2 : ℕ) → IsRegister r → i ≡ Reg op r rs1 rs2 → reg after r ≡ reg_result op (reg before rs1) (reg before rs2))
-      (left : IsLeft a begun bytes later) (cells : (k : ℕ) → IsCellHeld (w.cell k) later) (fixed : AreFixedIn w.fixed later)
+      (left : IsLeft a a begun bytes later) (cells : (k : ℕ) → IsCellHeld (w.cell k) later) (fixed : AreFixedIn w.fixed later)
       (reads : (op : LoadOp) (r rs1 : ℕ) (offset : ℤ) → IsRegister r → i ≡ Load op r rs1 offset → reg after r ≡ loaded op bytes (moved_by (reg before rs1) offset))
       (aligned : (op : LoadOp) (r rs1 : ℕ) (offset : ℤ) → i ≡ Load op r rs1 offset → moved_by (reg before rs1) offset % load_width op ≡ 0)
       (accesses : (r more : ℕ) (c : Arc) → IsAccessedIn v w.areas i a r more c → IsIn c (plus (reg before r) more)) where
@@ -315,15 +322,15 @@ module _ (t : Text) (g : Graph) (v : Values) (w : Stacks) (inv : IsStackInvarian
             (λ (c : IsFixedLoaded v w i a b r). fixed_loaded v w i a b r before after bytes held_before told.fixed (λ op rs1 offset. reads op r rs1 offset is) (λ op rs1 offset. aligned op r rs1 offset) c) f) o) q) u) z) y) x) (p.registers r is)
 
     -- over an edge
-    pub step_frames : (calls : List ℕ) (xs : List View) → Leads g a b → Steps g a b → Frames a begun bytes calls xs → AreTold v w b then × Frames b begun later calls xs
-    step_frames calls xs leads steps fs = (
+    pub step_frames : (calls : List ℕ) (xs : List View) → IsTidyStep w a (waiting v calls xs) bytes later → Leads g a b → Steps g a b → Frames a begun bytes calls xs → AreTold v w b then × Frames b begun later calls xs
+    step_frames calls xs tidy leads steps fs = (
       ⊎_elim (λ (none : IsImpossible (said i a b) (v.at a)). absurd (possible none)) (passed_then leads) (inv.steps a b i steps told.registers.live here),
-      frames_along a b begun later calls xs leads (frames_left a begun bytes later calls xs left fs),
+      frames_along a b begun later calls xs leads (frames_left a a begun bytes later calls xs left tidy fs),
     )
 
     -- into a call
-    pub call_frames : (calls : List ℕ) (xs : List View) → reg after 1 ≡ plus a 4 → Calls g a b → Frames a begun bytes calls xs → AreTold v w b (view_of w after after later) × Frames b after later (a ∷ calls) (now ∷ xs)
-    call_frames calls xs link call fs = (
+    pub call_frames : (calls : List ℕ) (xs : List View) → IsTidyStep w a (waiting v calls xs) bytes later → reg after 1 ≡ plus a 4 → Calls g a b → Frames a begun bytes calls xs → AreTold v w b (view_of w after after later) × Frames b after later (a ∷ calls) (now ∷ xs)
+    call_frames calls xs tidy link call fs = (
       record {
         registers = record {
           live = e.live;
@@ -353,7 +360,7 @@ module _ (t : Text) (g : Graph) (v : Values) (w : Stacks) (inv : IsStackInvarian
           spared = λ k h. h;
           same = λ k safe. far None (word_address w begun k) (plus_small (reg begun 2) (w.offset k)) tt e.quiet;
         },
-        frames_left a begun bytes later calls xs left fs,
+        frames_left a a begun bytes later calls xs left tidy fs,
       ),
     )
       where
@@ -374,12 +381,12 @@ module _ (t : Text) (g : Graph) (v : Values) (w : Stacks) (inv : IsStackInvarian
   -- back from a call at u, by a return at a
   module _ (a b u e : ℕ) (begun before after : List ℕ) (bytes later : ℕ → ℕ) (kept : (r : ℕ) → keeps_at t r a ≡ true → reg after r ≡ reg before r) (zero_after : reg after 0 ≡ 0) (size_after : length after ≡ 32)
       (bytes_after : AreBytes later) (lt : e < g.edges) (from : g.source e ≡ a) (returns : g.returns e ≡ true) (leads : Leads g u b) (calls : List ℕ) (x : View) (xs : List View)
-      (told : AreTold v w a (view_of w begun before bytes)) (left : IsLeft a begun bytes later) (cells : (k : ℕ) → IsCellHeld (w.cell k) later) (fixed : AreFixedIn w.fixed later) (fs : Frames a begun bytes (u ∷ calls) (x ∷ xs)) where
+      (told : AreTold v w a (view_of w begun before bytes)) (left : IsLeft a a begun bytes later) (tidy : IsTidyStep w a (waiting v (u ∷ calls) (x ∷ xs)) bytes later) (cells : (k : ℕ) → IsCellHeld (w.cell k) later) (fixed : AreFixedIn w.fixed later) (fs : Frames a begun bytes (u ∷ calls) (x ∷ xs)) where
     at_return : (r : ℕ) → IsRegister r → IsReturned t v w a r
     at_return r is = subst (λ n. IsReturned t v w n r) from (inv.returns e r lt returns (ap v.live from ∙ told.registers.live) is)
 
     over : Frame a begun later u x × Frames u x.begun later calls xs
-    over = frames_left a begun bytes later (u ∷ calls) (x ∷ xs) left fs
+    over = frames_left a a begun bytes later (u ∷ calls) (x ∷ xs) left tidy fs
 
     pub frame : Frame a begun later u x
     frame = over.0

@@ -10,6 +10,8 @@ pub mod Fixed
 pub mod Telling
 pub mod Digits
 pub mod Frames
+pub mod Tidy
+pub mod Inductions
 pub mod Moving
 pub mod Runs
 pub mod Turns

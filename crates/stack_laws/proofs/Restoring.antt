@@ -23,8 +23,10 @@ use Rattle.bound_laws.specs.Values.{IsRegister, Values, AreBytes}
 use Rattle.bound_laws.proofs.Laws.{At, Way, Onward, onward, over_edge, into_call, back_to, all_returns}
 use Rattle.stack_laws.specs.Areas.{IsLaidOut}
 use Rattle.stack_laws.specs.Stacks.{Stacks, View, view_of, IsRestored, IsStackInvariant, AreTold}
+use Rattle.stack_laws.specs.Tidy.{activations, IsTidyStep, IsTidy}
 use Rattle.stack_laws.specs.Laws.{ComesBackAt, RestoredRegistersHold}
 use Rattle.stack_laws.proofs.Naming.{mod_same}
+use Rattle.stack_laws.proofs.Tidy.{activations_of, tidy_up_to, tidy_step, open_over, open_call, open_back}
 use Rattle.stack_laws.proofs.Runs.{Holds, Returned, over_holds, call_holds, back_holds, stands_at}
 
 -- ---- what is so of a run is so of each run before it
@@ -83,7 +85,7 @@ module _ (t : Text) (env : Setting) (ok : IsTextOf t env) (code : Code) (is : Is
   g = text_graph t code
 
   -- The call at `site` is open, before which its function saw x. Those that wait for it were these, and saw the others.
-  record Open (site : ℕ) (outer : List ℕ) (x : View) (others : List View) (u : State) (rs : List ℕ) : Type 0 where
+  record Open (site : ℕ) (outer : List ℕ) (x : View) (others : List View) (n : ℕ) (u : State) (rs : List ℕ) : Type 0 where
     at : At t u rs
     begun : List ℕ
     sites : List ℕ
@@ -92,16 +94,27 @@ module _ (t : Text) (env : Setting) (ok : IsTextOf t env) (code : Code) (is : Is
     calls : at.calls ≡ sites ++ site ∷ outer
     even : length sites ≡ length within
     deep : length within + suc (length outer) ≡ length rs
+    opened : activations v env s n ≡ activations_of v u.pc at.calls begun (within ++ x ∷ others)
 
   lengths : (rs calls : List ℕ) → rs ≡ map after_call calls → length rs ≡ length calls
   lengths rs calls e = ap length e ∙ length-map calls after_call
 
-  module _ (site : ℕ) (outer : List ℕ) (x : View) (others : List View) (u : State) (rs qs : List ℕ) (y : Stepped) (went : (step env u).end ≡ Went y) (after : returns_after rs y ≡ Some qs) (now : Open site outer x others u rs) where
+  module _ (site : ℕ) (outer : List ℕ) (x : View) (others : List View) (n : ℕ) (rs qs : List ℕ) (y : Stepped) (went : (step env (run env s n).state).end ≡ Went y) (after : returns_after rs y ≡ Some qs)
+      (now : Open site outer x others n (run env s n).state rs) (state : (run env s (suc n)).state ≡ (step env (run env s n).state).state) (tidy : IsTidy v w env s (suc n)) where
+    abbrev u : State
+    u = (run env s n).state
+
     abbrev next : State
     next = (step env u).state
 
     on : Onward t env ok code is fine u next now.at.calls qs y.moved
     on = onward t env ok code is fine u rs qs now.at y went after
+
+    abbrev Opened : List ℕ → List ℕ → List View → Type 0
+    Opened calls begun xs = activations v env s (suc n) ≡ activations_of v next.pc calls begun xs
+
+    this : IsTidyStep w u.pc (activations_of v u.pc now.at.calls now.begun (now.within ++ x ∷ others)) u.bytes next.bytes
+    this = tidy_step v w env s n (activations_of v u.pc now.at.calls now.begun (now.within ++ x ∷ others)) now.opened state tidy
 
     size : length rs ≡ length now.at.calls
     size = lengths rs now.at.calls now.at.returns
@@ -109,11 +122,14 @@ module _ (t : Text) (env : Setting) (ok : IsTextOf t env) (code : Code) (is : Is
     size_after : length qs ≡ length on.at.calls
     size_after = lengths qs on.at.calls on.at.returns
 
-    stays : length outer < length qs → Open site outer x others next qs
+    stays : length outer < length qs → Open site outer x others (suc n) next qs
     stays high = by_way on.way
       where
         holds_after : (calls : List ℕ) (begun : List ℕ) (xs : List View) → on.at.calls ≡ calls → Holds t env ok code is fine v w inv laid input next calls begun xs → Holds t env ok code is fine v w inv laid input next on.at.calls begun xs
         holds_after calls begun xs e h = subst (λ c. Holds t env ok code is fine v w inv laid input next c begun xs) (sym e) h
+
+        opened_after : (calls : List ℕ) (begun : List ℕ) (xs : List View) → on.at.calls ≡ calls → Opened calls begun xs → Opened on.at.calls begun xs
+        opened_after calls begun xs e h = subst (λ c. Opened c begun xs) (sym e) h
 
         one_more : (a b r q : ℕ) → a + suc b ≡ r → q ≡ suc r → suc a + suc b ≡ q
         one_more a b r q e f = omega arith
@@ -130,17 +146,18 @@ module _ (t : Text) (env : Setting) (ok : IsTextOf t env) (code : Code) (is : Is
         both : (a b c d : ℕ) → a ≡ suc c → b ≡ suc d → a ≡ b → c ≡ d
         both a b c d e f h = omega arith
 
-        by_way : Way g u.pc next.pc now.at.calls on.at.calls y.moved → Open site outer x others next qs
+        by_way : Way g u.pc next.pc now.at.calls on.at.calls y.moved → Open site outer x others (suc n) next qs
         by_way (over_edge leads steps same moved) =
             record {
               at = on.at;
               begun = now.begun;
               sites = now.sites;
               within = now.within;
-              holds = holds_after now.at.calls now.begun (now.within ++ x ∷ others) same (over_holds t env ok code is fine v w inv laid input u rs now.at y went on.at.over now.begun (now.within ++ x ∷ others) now.holds leads steps);
+              holds = holds_after now.at.calls now.begun (now.within ++ x ∷ others) same (over_holds t env ok code is fine v w inv laid input u rs now.at y went on.at.over now.begun (now.within ++ x ∷ others) now.holds this leads steps);
               calls = same ∙ now.calls;
               even = now.even;
               deep = now.deep ∙ (size ∙ (sym (ap length same) ∙ sym size_after));
+              opened = opened_after now.at.calls now.begun (now.within ++ x ∷ others) same (open_over v env s n y now.at.calls now.begun (now.within ++ x ∷ others) went moved (inv.functions u.pc next.pc leads) now.opened);
             }
         by_way (into_call call same moved) =
             let seen : View = view_of w now.begun u.regs u.bytes in
@@ -149,22 +166,24 @@ module _ (t : Text) (env : Setting) (ok : IsTextOf t env) (code : Code) (is : Is
               begun = next.regs;
               sites = u.pc ∷ now.sites;
               within = seen ∷ now.within;
-              holds = holds_after (u.pc ∷ now.at.calls) next.regs (seen ∷ now.within ++ x ∷ others) same (call_holds t env ok code is fine v w inv laid input u rs now.at y went on.at.over now.begun (now.within ++ x ∷ others) now.holds moved call);
+              holds = holds_after (u.pc ∷ now.at.calls) next.regs (seen ∷ now.within ++ x ∷ others) same (call_holds t env ok code is fine v w inv laid input u rs now.at y went on.at.over now.begun (now.within ++ x ∷ others) now.holds this moved call);
               calls = same ∙ ap (λ c. u.pc ∷ c) now.calls;
               even = ap suc now.even;
               deep = one_more (length now.within) (length outer) (length rs) (length qs) now.deep (size_after ∙ (ap length same ∙ ap suc (sym size)));
+              opened = opened_after (u.pc ∷ now.at.calls) next.regs (seen ∷ now.within ++ x ∷ others) same (open_call v env s w n y now.at.calls now.begun (now.within ++ x ∷ others) went moved now.opened);
             }
         by_way (back_to z e to us calls same lt from returns call leads moved) =
-            let b = back_holds t env ok code is fine v w inv laid input u rs now.at y went on.at.over now.begun (now.within ++ x ∷ others) now.holds z e us calls lt from returns leads in
+            let b = back_holds t env ok code is fine v w inv laid input u rs now.at y went on.at.over now.begun (now.within ++ x ∷ others) now.holds this z e us calls lt from returns leads in
             pop now.within refl now.sites refl b.0 b.1 b.2 (holds_after us b.0.begun b.1 same b.3)
+            (opened_after us b.0.begun b.1 same (open_back v env s n y now.at.calls now.begun (now.within ++ x ∷ others) z us b.0 b.1 went moved calls b.2 (inv.functions z next.pc leads) now.opened))
           where
             shorter : length rs ≡ suc (length qs)
             shorter = size ∙ (ap length calls ∙ (ap (λ c. suc (length c)) (sym same) ∙ ap suc (sym size_after)))
 
-            pop : (within : List View) → now.within ≡ within → (sites : List ℕ) → now.sites ≡ sites → (top : View) (rest : List View) → now.within ++ x ∷ others ≡ top ∷ rest → Holds t env ok code is fine v w inv laid input next on.at.calls top.begun rest → Open site outer x others next qs
-            pop [] e sites q top rest f h = absurd (low (length now.within) (length outer) (length rs) (length qs) (ap length e) now.deep shorter high)
-            pop (first ∷ more) e [] q top rest f h = absurd (uneven (length now.sites) (length now.within) (length more) (ap length q) (ap length e) now.even)
-            pop (first ∷ more) e (c ∷ cs) q top rest f h =
+            pop : (within : List View) → now.within ≡ within → (sites : List ℕ) → now.sites ≡ sites → (top : View) (rest : List View) → now.within ++ x ∷ others ≡ top ∷ rest → Holds t env ok code is fine v w inv laid input next on.at.calls top.begun rest → Opened on.at.calls top.begun rest → Open site outer x others (suc n) next qs
+            pop [] e sites q top rest f h opened = absurd (low (length now.within) (length outer) (length rs) (length qs) (ap length e) now.deep shorter high)
+            pop (first ∷ more) e [] q top rest f h opened = absurd (uneven (length now.sites) (length now.within) (length more) (ap length q) (ap length e) now.even)
+            pop (first ∷ more) e (c ∷ cs) q top rest f h opened =
                 let views : first ∷ more ++ x ∷ others ≡ top ∷ rest = ap (λ l. l ++ x ∷ others) (sym e) ∙ f in
                 let tail : more ++ x ∷ others ≡ rest = cc in
                 let whole : c ∷ cs ++ site ∷ outer ≡ z ∷ us = ap (λ l. l ++ site ∷ outer) (sym q) ∙ (sym now.calls ∙ calls) in
@@ -178,6 +197,7 @@ module _ (t : Text) (env : Setting) (ok : IsTextOf t env) (code : Code) (is : Is
                   calls = same ∙ sym left;
                   even = both (length now.sites) (length now.within) (length cs) (length more) (ap length q) (ap length e) now.even;
                   deep = one_less (length now.within) (length more) (length outer) (length rs) (length qs) (ap length e) now.deep shorter;
+                  opened = subst (λ l. Opened on.at.calls top.begun l) (sym tail) opened;
                 }
 
     -- and when it comes back
@@ -200,7 +220,7 @@ module _ (t : Text) (env : Setting) (ok : IsTextOf t env) (code : Code) (is : Is
         by_way (over_edge leads steps same moved) = absurd (same_size (length now.within) (length outer) (length rs) (length qs) now.deep (size ∙ (sym (ap length same) ∙ sym size_after)) even)
         by_way (into_call call same moved) = absurd (more_size (length now.within) (length outer) (length rs) (length qs) now.deep (size_after ∙ (ap length same ∙ ap suc (sym size))) even)
         by_way (back_to z e to us calls same lt from returns call leads moved) =
-            let b = back_holds t env ok code is fine v w inv laid input u rs now.at y went on.at.over now.begun (now.within ++ x ∷ others) now.holds z e us calls lt from returns leads in
+            let b = back_holds t env ok code is fine v w inv laid input u rs now.at y went on.at.over now.begun (now.within ++ x ∷ others) now.holds this z e us calls lt from returns leads in
             pop now.within refl now.sites refl b.0 b.1 b.2 b.4
           where
             shorter : length rs ≡ suc (length qs)
@@ -217,12 +237,15 @@ module _ (t : Text) (env : Setting) (ok : IsTextOf t env) (code : Code) (is : Is
             pop [] e (c ∷ cs) q top rest f h = absurd (uneven (length now.sites) (length now.within) (length cs) (ap length e) (ap length q) now.even)
             pop (first ∷ more) e sites q top rest f h = absurd (high (length now.within) (length more) (length outer) (length rs) (length qs) (ap length e) now.deep shorter even)
 
-  module _ (over : IsOverText t s) (at_entry : s.pc ≡ t.entry) (starts : AreTold v w s.pc (view_of w s.regs s.regs s.bytes)) (bytes : AreBytes s.bytes) (m n : ℕ) (call : Stepped) (back : ComesBackAt env s m n call) where
+  module _ (over : IsOverText t s) (at_entry : s.pc ≡ t.entry) (starts : AreTold v w s.pc (view_of w s.regs s.regs s.bytes)) (bytes : AreBytes s.bytes) (m n : ℕ) (call : Stepped) (tidy : IsTidy v w env s n) (back : ComesBackAt env s m n call) where
     none : Loops
     none = record { loops = 0; header = λ k. 0; bound = λ k. 0; least_trips = λ k. 0; inside = λ k v. false }
 
     abbrev site : ℕ
     site = (run env s m).state.pc
+
+    tidy_at : (j : ℕ) → j ≤ n → IsTidy v w env s j
+    tidy_at j le = tidy_up_to v w env s n j le tidy
 
     listed_at : (j : ℕ) → j ≤ n → Listed env s j
     listed_at j le = before env s n j le (back.after, back.goes, back.returned)
@@ -236,7 +259,7 @@ module _ (t : Text) (env : Setting) (ok : IsTextOf t env) (code : Code) (is : Is
       regs : x.regs ≡ (run env s m).state.regs
       depth : length outer ≡ length back.before
       returns : returns_so (run env s j).steps ≡ Some rs
-      holds : Open site outer x others (run env s j).state rs
+      holds : Open site outer x others j (run env s j).state rs
 
     some_same : (x y : List ℕ) → Some x ≡ Some y → x ≡ y
     some_same x y e = let r : x ≡ y = cc in r
@@ -247,8 +270,8 @@ module _ (t : Text) (env : Setting) (ok : IsTextOf t env) (code : Code) (is : Is
     begin : Inside (suc m)
     begin =
         let k = all_returns env s none m b.list b.returns in
-        let p = stands_at t env ok code is fine v w inv laid input s over at_entry (unasked none) starts bytes m k.0 k.1 b.goes in
-        by_list k.0.returns p.0 p.1.0 p.1.1 p.1.2 k.2
+        let p = stands_at t env ok code is fine v w inv laid input s over at_entry (unasked none) starts bytes m (tidy_at m (let lt : m < n = back.later in omega arith)) k.0 k.1 b.goes in
+        by_list k.0.returns p.0 p.1.0 p.1.1 p.1.2 p.1.3 k.2
       where
         later : Listed env s (suc m)
         later = listed_at (suc m) (let lt : m < n = back.later in omega arith)
@@ -259,9 +282,12 @@ module _ (t : Text) (env : Setting) (ok : IsTextOf t env) (code : Code) (is : Is
         u : State
         u = (run env s m).state
 
-        by_list : (rs : List ℕ) (at : At t u rs) (begun : List ℕ) (xs : List View) → Holds t env ok code is fine v w inv laid input u at.calls begun xs → rs ≡ b.list → Inside (suc m)
-        by_list rs at begun xs holds list = by_way on.way
+        by_list : (rs : List ℕ) (at : At t u rs) (begun : List ℕ) (xs : List View) → Holds t env ok code is fine v w inv laid input u at.calls begun xs → activations v env s m ≡ activations_of v u.pc at.calls begun xs → rs ≡ b.list → Inside (suc m)
+        by_list rs at begun xs holds opened list = by_way on.way
           where
+            this : IsTidyStep w u.pc (activations_of v u.pc at.calls begun xs) u.bytes (step env u).state.bytes
+            this = tidy_step v w env s m (activations_of v u.pc at.calls begun xs) opened b.state (tidy_at (suc m) (let lt : m < n = back.later in omega arith))
+
             on : Onward t env ok code is fine u (step env u).state at.calls later.0 b.step_is.moved
             on = onward t env ok code is fine u rs later.0 at b.step_is b.went (subst (λ l. returns_after l b.step_is ≡ Some later.0) (sym list) b.after)
 
@@ -279,16 +305,18 @@ module _ (t : Text) (env : Setting) (ok : IsTextOf t env) (code : Code) (is : Is
               regs = refl;
               depth = sym (lengths rs at.calls at.returns) ∙ ap length (list ∙ some_same b.list back.before (sym b.returns ∙ back.returns));
               returns = later.2;
-              holds = subst (λ y. Open site at.calls (view_of w begun u.regs u.bytes) xs y later.0) (sym b.state) (record {
+              holds = subst (λ y. Open site at.calls (view_of w begun u.regs u.bytes) xs (suc m) y later.0) (sym b.state) (record {
                 at = on.at;
                 begun = (step env u).state.regs;
                 sites = [];
                 within = [];
                 holds = subst (λ c. Holds t env ok code is fine v w inv laid input (step env u).state c (step env u).state.regs (view_of w begun u.regs u.bytes ∷ xs)) (sym same)
-                    (call_holds t env ok code is fine v w inv laid input u rs at b.step_is b.went on.at.over begun xs holds moved call);
+                    (call_holds t env ok code is fine v w inv laid input u rs at b.step_is b.went on.at.over begun xs holds this moved call);
                 calls = same;
                 even = refl;
                 deep = first_depth (length at.calls) (length later.0) (lengths later.0 on.at.calls on.at.returns ∙ ap length same);
+                opened = subst (λ c. activations v env s (suc m) ≡ activations_of v (step env u).state.pc c (step env u).state.regs (view_of w begun u.regs u.bytes ∷ xs)) (sym same)
+                    (open_call v env s w m b.step_is at.calls begun xs b.went moved opened);
               });
             }
               where
@@ -309,8 +337,8 @@ module _ (t : Text) (env : Setting) (ok : IsTextOf t env) (code : Code) (is : Is
           regs = now.regs;
           depth = now.depth;
           returns = next.2;
-          holds = subst (λ u. Open site now.outer now.x now.others u next.0) (sym b.state)
-              (stays site now.outer now.x now.others (run env s j).state now.rs next.0 b.step_is b.went (subst (λ l. returns_after l b.step_is ≡ Some next.0) list b.after) now.holds high);
+          holds = subst (λ u. Open site now.outer now.x now.others (suc j) u next.0) (sym b.state)
+              (stays site now.outer now.x now.others j now.rs next.0 b.step_is b.went (subst (λ l. returns_after l b.step_is ≡ Some next.0) list b.after) now.holds b.state (tidy_at (suc j) (omega arith)) high);
         }
 
     inside : (j : ℕ) → m < j → j < n → Inside j
@@ -340,7 +368,7 @@ module _ (t : Text) (env : Setting) (ok : IsTextOf t env) (code : Code) (is : Is
             let list : b.list ≡ now.rs = some_same b.list now.rs (sym b.returns ∙ now.returns) in
             let same : last.0 ≡ back.after = some_same last.0 back.after (sym last.2 ∙ (ap (λ k. returns_so (run env s k).steps) (sym e) ∙ back.returned)) in
             let even : length last.0 ≡ length now.outer = ap length same ∙ (back.even ∙ sym now.depth) in
-            let r : Returned t env ok code is fine v w inv laid input site now.x (step env (run env s i).state).state = comes site now.outer now.x now.others (run env s i).state now.rs last.0 b.step_is b.went (subst (λ l. returns_after l b.step_is ≡ Some last.0) list b.after) now.holds even in
+            let r : Returned t env ok code is fine v w inv laid input site now.x (step env (run env s i).state).state = comes site now.outer now.x now.others i now.rs last.0 b.step_is b.went (subst (λ l. returns_after l b.step_is ≡ Some last.0) list b.after) now.holds b.state (tidy_at (suc i) (omega arith)) even in
             let state : (run env s n).state ≡ (step env (run env s i).state).state = ap (λ k. (run env s k).state) e ∙ b.state in
             (r.to, r.call, λ q reg_is res small. subst (λ y. reg y.regs q ≡ reg (run env s m).state.regs q) (sym state) (value now.x.regs (run env s m).state.regs (step env (run env s i).state).state.regs q now.regs (r.alike q reg_is res) small))
           where
@@ -350,5 +378,5 @@ module _ (t : Text) (env : Setting) (ok : IsTextOf t env) (code : Code) (is : Is
                 sym (mod_same (reg after q) (alike.1 low)) ∙ (alike.0 ∙ (mod_same (reg before q) low ∙ ap (λ l. reg l q) e))
 
 pub restored_registers_hold : RestoredRegistersHold
-restored_registers_hold t env s code v w start reached inv laid starts bytes input m n call back =
-    restored t env start.text code reached.lists reached.words v w inv laid input s start.state start.entry starts bytes m n call back
+restored_registers_hold t env s code v w start reached inv laid starts bytes input m n call tidy back =
+    restored t env start.text code reached.lists reached.words v w inv laid input s start.state start.entry starts bytes m n call tidy back

@@ -31,9 +31,11 @@ use Rattle.stack_laws.specs.Areas.{IsLaidOut}
 use Rattle.stack_laws.specs.Stacks.{Stacks, View, view_of, IsNamed, IsStackInvariant, AreTold}
 use Rattle.stack_laws.specs.Stacks.Name.{of_begin}
 use Rattle.stack_laws.specs.Returning.{ComesBack}
+use Rattle.stack_laws.specs.Tidy.{IsTidy}
 use Rattle.stack_laws.specs.Laws.{RunsComeBack}
 use Rattle.stack_laws.proofs.Frames.{Frame, Frames}
 use Rattle.stack_laws.proofs.Moving.{moved_as, returns_to, exit_moves}
+use Rattle.stack_laws.proofs.Tidy.{tidy_before}
 use Rattle.stack_laws.proofs.Runs.{Holds, stands_at}
 
 back_behind : (value z : ℕ) → value % 2 ^ 32 ≡ ((z + 4) % 2 ^ 32 + 0) % 2 ^ 32 → z % 4 ≡ 0 → (value + 0) % 2 ^ 32 - (value + 0) % 2 ^ 32 % 2 ≡ (z + 4) % 2 ^ 32
@@ -102,19 +104,19 @@ module _ (t : Text) (env : Setting) (ok : IsTextOf t env) (code : Code) (is : Is
     Fine r = (rs : List ℕ) × (returns_so r.steps ≡ Some rs) × (length rs ≤ most_returns)
 
     -- the list is short where a run goes on
-    short : (n : ℕ) (rs : List ℕ) → returns_so (run env s n).steps ≡ Some rs → (run env s n).standing ≡ GoesOn → length rs ≤ most_returns
-    short n rs returns e =
+    short : (n : ℕ) → IsTidy v w env s n → (rs : List ℕ) → returns_so (run env s n).steps ≡ Some rs → (run env s n).standing ≡ GoesOn → length rs ≤ most_returns
+    short n tidy rs returns e =
         let k = all_returns env s none n rs returns in
-        let p = stands_at t env ok code is fine v w inv laid input s over at_entry (unasked none) starts bytes n k.0 k.1 e in
+        let p = stands_at t env ok code is fine v w inv laid input s over at_entry (unasked none) starts bytes n tidy k.0 k.1 e in
         let d : length p.0.calls + comes.height (v.function (run env s n).state.pc) ≤ comes.height (v.function t.entry) = deep (run env s n).state.pc p.1.0 (run env s n).state.bytes p.0.calls p.1.1 p.1.2.frames in
         let list : rs ≡ map after_call p.0.calls = sym k.2 ∙ p.0.returns in
         let size : length rs ≡ length p.0.calls = ap length list ∙ length-map p.0.calls after_call in
         let top = comes.top in
         omega arith
 
-    more : (n : ℕ) → Fine (run env s n) → Fine (run env s (suc n))
+    more : (n : ℕ) → IsTidy v w env s (suc n) → Fine (run env s n) → Fine (run env s (suc n))
     unfolding run
-    more n ih = by_standing (run env s n).standing refl
+    more n tidy ih = by_standing (run env s n).standing refl
       where
         r : Run
         r = run env s n
@@ -122,11 +124,11 @@ module _ (t : Text) (env : Setting) (ok : IsTextOf t env) (code : Code) (is : Is
         by_end : r.standing ≡ GoesOn → (end : StepEnd) → (step env r.state).end ≡ end → (run env s (suc n)) ≡ ended r.steps end (step env r.state).state → Fine (run env s (suc n))
         by_end e (Went x) q same =
             let k = all_returns env s none n ih.0 ih.1 in
-            let p = stands_at t env ok code is fine v w inv laid input s over at_entry (unasked none) starts bytes n k.0 k.1 e in
+            let p = stands_at t env ok code is fine v w inv laid input s over at_entry (unasked none) starts bytes n (tidy_before v w env s n tidy) k.0 k.1 e in
             let b = comes_back r.state k.0.returns p.0 p.1.0 p.1.1 p.1.2 x q in
             let last : returns_after ih.0 x ≡ Some b.0 = ap (λ y. returns_after y x) (sym k.2) ∙ b.1 in
             let whole : returns_so (run env s (suc n)).steps ≡ Some b.0 = ap (λ y. returns_so y.steps) same ∙ (fold-append returns_more (Some []) r.steps (x ∷ []) ∙ (ap (λ o. returns_more o x) ih.1 ∙ last)) in
-            (b.0, whole, short (suc n) b.0 whole (ap (λ y. y.standing) same))
+            (b.0, whole, short (suc n) tidy b.0 whole (ap (λ y. y.standing) same))
         by_end e (Exited x status) q same =
             let moved : returns_after ih.0 x ≡ Some ih.0 = ap (λ m. returns_by m ih.0 x) (exit_moves env r.state x status q) in
             let whole : returns_so (run env s (suc n)).steps ≡ Some ih.0 = ap (λ y. returns_so y.steps) same ∙ (fold-append returns_more (Some []) r.steps (x ∷ []) ∙ (ap (λ o. returns_more o x) ih.1 ∙ moved)) in
@@ -138,11 +140,11 @@ module _ (t : Text) (env : Setting) (ok : IsTextOf t env) (code : Code) (is : Is
         by_standing (HasExited status) e = subst Fine (sym (ap (one_more_by env r) e)) ih
         by_standing (HasTrapped trap) e = subst Fine (sym (ap (one_more_by env r) e)) ih
 
-    pub fine_at : (n : ℕ) → Fine (run env s n)
+    pub fine_at : (n : ℕ) → IsTidy v w env s n → Fine (run env s n)
     unfolding run
-    fine_at zero = ([], refl, omega arith)
-    fine_at (suc n) = more n (fine_at n)
+    fine_at zero tidy = ([], refl, omega arith)
+    fine_at (suc n) tidy = more n tidy (fine_at n (tidy_before v w env s n tidy))
 
 pub runs_come_back : RunsComeBack
-runs_come_back t env s code v w start reached inv comes laid starts bytes input n =
-    fine_at t env start.text code reached.lists reached.words v w inv comes laid input s start.state start.entry starts bytes n
+runs_come_back t env s code v w start reached inv comes laid starts bytes input n tidy =
+    fine_at t env start.text code reached.lists reached.words v w inv comes laid input s start.state start.entry starts bytes n tidy

@@ -19,6 +19,7 @@ use Rattle.bound_laws.specs.Values.{Arc, strided, IsHeld, sum_with, top_of, held
 use Rattle.bound_laws.specs.Registers.{keeps}
 use Rattle.bound_laws.proofs.Laws.{sum_with_in, below_top, held_of, step_of}
 use Rattle.stack_laws.specs.Stacks.{known_sum, span_of, IsSpanned, stored_span, most_stored, AreBelow, Stacks, View, view_of, word_address, IsNamed, name_of, offset_of, stored_at, loaded_at, width_stored, word_stored, word_loaded, IsStoredFrom, IsLoadedTo, IsApart, AreApart, HasNot, IsFar, IsMissed, IsBelow, IsSparing, AreTold}
+use Rattle.stack_laws.specs.Tidy.{Activation, AreKept}
 use Rattle.stack_laws.proofs.Stores.{AreOut, AreSame, word_same, apart_out, stores_keep, served_keeps, stores_put, loads_get}
 use Rattle.stack_laws.proofs.Naming.{held_small, span_sum, places_apart, span_apart, span_below, plus_small, are_apart, apart_small, less_apart, has_not, is_below, offset_small, offset_is}
 
@@ -174,19 +175,22 @@ module _ (env : Setting) (keyless : env.layout.keyed ≡ None) (v : Values) (w :
       nowhere None n h = h
       nowhere (Some b) n h = h
 
-  pub misses : (k : ℕ) → IsMissed v w s.pc i k → word_at after.bytes (word_address w begun k) ≡ word_at s.bytes (word_address w begun k)
-  misses k m = ⊎_elim
+  pub misses : (w.doubtful s.pc ≡ true → AreKept w s.bytes after.bytes (record { function = v.function s.pc; stack = reg begun 2 })) → (k : ℕ) → IsMissed v w s.pc i k → word_at after.bytes (word_address w begun k) ≡ word_at s.bytes (word_address w begun k)
+  misses tidy k m = ⊎_elim
       (λ (far : IsFar v s.pc i (sum_with (w.begins (v.function s.pc)) (w.offset k))). far_keeps (sum_with (w.begins (v.function s.pc)) (w.offset k)) (word_address w begun k) (plus_small (reg begun 2) (w.offset k)) (sum_with_in (w.begins (v.function s.pc)) (w.offset k) (reg begun 2) told.begins) far)
-      (λ (rest : ((o : ℕ) × (stored_at w s.pc i ≡ Some o) × IsApart o (width_stored i) (w.offset k)) ⊎ AreApart (stored_span v w s.pc i) (most_stored v s.pc i) (Some (strided (w.offset k) 0 0))). ⊎_elim
+      (λ (rest : ((o : ℕ) × (stored_at w s.pc i ≡ Some o) × IsApart o (width_stored i) (w.offset k)) ⊎ AreApart (stored_span v w s.pc i) (most_stored v s.pc i) (Some (strided (w.offset k) 0 0)) ⊎ ((w.doubtful s.pc ≡ true) × (w.kept (v.function s.pc) k ≡ true))). ⊎_elim
       (λ (near : (o : ℕ) × (stored_at w s.pc i ≡ Some o) × IsApart o (width_stored i) (w.offset k)). near_keeps near.0 (w.offset k) (offsets k) near.1 near.2)
-      (λ (apart : AreApart (stored_span v w s.pc i) (most_stored v s.pc i) (Some (strided (w.offset k) 0 0))). spanned_keeps (w.offset k) (offsets k) apart) rest) m
+      (λ (last : AreApart (stored_span v w s.pc i) (most_stored v s.pc i) (Some (strided (w.offset k) 0 0)) ⊎ ((w.doubtful s.pc ≡ true) × (w.kept (v.function s.pc) k ≡ true))). ⊎_elim
+      (λ (apart : AreApart (stored_span v w s.pc i) (most_stored v s.pc i) (Some (strided (w.offset k) 0 0))). spanned_keeps (w.offset k) (offsets k) apart)
+      (λ (doubt : (w.doubtful s.pc ≡ true) × (w.kept (v.function s.pc) k ≡ true)). tidy doubt.0 k doubt.1) last) rest) m
 
-  pub spares : (k q : ℕ) → IsSparing v w s.pc i k → IsHeld (w.place k) q → q < 2 ^ 32 → reg begun 2 ≤ q → word_at after.bytes q ≡ word_at s.bytes q
-  spares k q m place small above = ⊎_elim
+  pub spares : (k q : ℕ) → IsSparing v w s.pc i k → IsHeld (w.place k) q → q < 2 ^ 32 → reg begun 2 ≤ q → (w.doubtful s.pc ≡ true → word_at after.bytes q ≡ word_at s.bytes q) → word_at after.bytes q ≡ word_at s.bytes q
+  spares k q m place small above tidy = ⊎_elim
       (λ (far : IsFar v s.pc i (w.place k)). far_keeps (w.place k) q small place far)
-      (λ (rest : ((o : ℕ) × (stored_at w s.pc i ≡ Some o) × IsBelow (w.begins (v.function s.pc)) o (width_stored i)) ⊎ AreBelow (w.begins (v.function s.pc)) (stored_span v w s.pc i) (most_stored v s.pc i)). ⊎_elim
+      (λ (rest : ((o : ℕ) × (stored_at w s.pc i ≡ Some o) × IsBelow (w.begins (v.function s.pc)) o (width_stored i)) ⊎ AreBelow (w.begins (v.function s.pc)) (stored_span v w s.pc i) (most_stored v s.pc i) ⊎ (w.doubtful s.pc ≡ true)). ⊎_elim
       (λ (below : (o : ℕ) × (stored_at w s.pc i ≡ Some o) × IsBelow (w.begins (v.function s.pc)) o (width_stored i)). below_keeps below.0 q small above below.1 below.2)
-      (λ (below : AreBelow (w.begins (v.function s.pc)) (stored_span v w s.pc i) (most_stored v s.pc i)). spanned_below q small above below) rest) m
+      (λ (last : AreBelow (w.begins (v.function s.pc)) (stored_span v w s.pc i) (most_stored v s.pc i) ⊎ (w.doubtful s.pc ≡ true)). ⊎_elim
+      (λ (below : AreBelow (w.begins (v.function s.pc)) (stored_span v w s.pc i) (most_stored v s.pc i)). spanned_below q small above below) tidy last) rest) m
 
   module _ (x : Stepped) (went : (step env s).end ≡ Went x) where
     stored_as : (k r : ℕ) (j : Instr) → i ≡ j → word_stored j ≡ Some r → stored_at w s.pc j ≡ Some (w.offset k) → (performs env s i j).end ≡ Went x → word_at (performs env s i j).state.bytes (word_address w begun k) ≡ reg s.regs r % 2 ^ 32

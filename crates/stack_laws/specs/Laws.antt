@@ -23,16 +23,21 @@ use Rattle.stack_laws.specs.Cells.{IsCellHeld}
 use Rattle.stack_laws.specs.Fixed.{AreFixedIn, AreUnwritten}
 use Rattle.stack_laws.specs.Areas.{AreAreas, IsLaidOut}
 use Rattle.stack_laws.specs.Stacks.{Stacks, view_of, IsRestored, IsBeginning, IsStackInvariant, AreTold}
+use Rattle.stack_laws.specs.Tidy.{IsTidy, IsCertain}
 use Rattle.stack_laws.specs.Returning.{ComesBack}
 use Rattle.stack_laws.specs.Counting.{StackCertificate, IsStackCertificate, IsWithin, IsShown}
 
--- As long as the returns of a run go back to their calls, all that the tables of an invariant say is so, at each address: of the registers,
--- of the words of the stack, and of those with which the function began.
+-- where nothing is doubtful, each run is tidy
+abbrev pub CertainRunsAreTidy : Type 0
+CertainRunsAreTidy = (v : Values) (w : Stacks) (env : Setting) (s : State) → IsCertain w → (n : ℕ) → IsTidy v w env s n
+
+-- As long as a run is tidy and its returns go back to their calls, all that the tables of an invariant say is so, at each address: of the
+-- registers, of the words of the stack, and of those with which the function began.
 abbrev pub StackValuesHold : Type 0
 StackValuesHold = (t : Text) (env : Setting) (s : State) (code : Code) (v : Values) (w : Stacks) → IsStartOver t env s →
     IsReachedCode t code → IsStackInvariant t (text_graph t code) v w →
     IsLaidOut env.layout w.areas w.fixed → AreTold v w s.pc (view_of w s.regs s.regs s.bytes) → AreBytes s.bytes → All (λ x. x < 256) env.input →
-    (n : ℕ) (rs : List ℕ) → returns_so (run env s n).steps ≡ Some rs → (run env s n).standing ≡ GoesOn →
+    (n : ℕ) → IsTidy v w env s n → (rs : List ℕ) → returns_so (run env s n).steps ≡ Some rs → (run env s n).standing ≡ GoesOn →
     (begun : List ℕ) × AreTold v w (run env s n).state.pc (view_of w begun (run env s n).state.regs (run env s n).state.bytes)
 
 -- The call after m steps is open in each run from there on up to n steps, and comes back with the last of them: more return addresses are
@@ -49,26 +54,28 @@ pub record ComesBackAt (env : Setting) (s : State) (m n : ℕ) (call : Stepped) 
   pub between : (j : ℕ) (rs : List ℕ) → m < j → j < n → returns_so (run env s j).steps ≡ Some rs → length before < length rs
   pub goes : (run env s n).standing ≡ GoesOn
 
--- As long as the returns of a run go back to their calls, the registers that a function restores are behind a call what they were before it.
+-- As long as a run is tidy and its returns go back to their calls, the registers that a function restores are behind a call what they were
+-- before it.
 abbrev pub RestoredRegistersHold : Type 0
 RestoredRegistersHold = (t : Text) (env : Setting) (s : State) (code : Code) (v : Values) (w : Stacks) → IsStartOver t env s →
     IsReachedCode t code → IsStackInvariant t (text_graph t code) v w →
     IsLaidOut env.layout w.areas w.fixed → AreTold v w s.pc (view_of w s.regs s.regs s.bytes) → AreBytes s.bytes → All (λ x. x < 256) env.input →
-    (m n : ℕ) (call : Stepped) → ComesBackAt env s m n call →
+    (m n : ℕ) (call : Stepped) → IsTidy v w env s n → ComesBackAt env s m n call →
     (to : ℕ) × Calls (text_graph t code) (run env s m).state.pc to × ((r : ℕ) → IsRegister r →
     IsRestored t v w (run env s m).state.pc to r → reg (run env s m).state.regs r < 2 ^ 32 →
     reg (run env s n).state.regs r ≡ reg (run env s m).state.regs r)
 
--- As long as the returns of a run go back to their calls, a loop with a certificate whose counter is within the width at the loop's header
--- turns no more often than the width allows.
+-- As long as a run is tidy and its returns go back to their calls, a loop with a certificate whose counter is within the width at the loop's
+-- header turns no more often than the width allows.
 abbrev pub StackCertificatesBoundTurns : Type 0
 StackCertificatesBoundTurns = (t : Text) (env : Setting) (s : State) (code : Code) (v : Values) (w : Stacks) (l : Loops) (k : ℕ)
     (c : StackCertificate) → IsStartOver t env s → IsReachedCode t code → IsStackInvariant t (text_graph t code) v w →
     IsLaidOut env.layout w.areas w.fixed → AreTold v w s.pc (view_of w s.regs s.regs s.bytes) → AreBytes s.bytes → All (λ x. x < 256) env.input →
     IsStackCertificate t (text_graph t code) v w (l.header k) (l.inside k) c → IsWithin v w c.width c.counter (l.header k) →
-    (n : ℕ) (d : Carried) → kept_at env s (unasked l) n ≡ Some d → d.counts k * c.least ≤ c.width
+    (n : ℕ) → IsTidy v w env s n → (d : Carried) → kept_at env s (unasked l) n ≡ Some d → d.counts k * c.least ≤ c.width
 
--- What the code of an image without a keyed segment says by itself: its reached code, and tables that it confirms, from any bytes on.
+-- What the code of an image without a keyed segment says by itself: its reached code, and tables that it confirms, from any bytes on, in
+-- which nothing is doubtful.
 pub record IsStackAnalysed (image : Image) (code : Code) (v : Values) (w : Stacks) : Type 0 where
   pub reached : IsReachedCode (text_of image) code
   pub invariant : IsStackInvariant (text_of image) (text_graph (text_of image) code) v w
@@ -81,6 +88,7 @@ pub record IsStackAnalysed (image : Image) (code : Code) (v : Values) (w : Stack
   -- the memory with which a run begins
   pub cells : (c : ℕ) → IsCellHeld (w.cell c) (loaded_byte image)
   pub fixed : AreFixedIn w.fixed (loaded_byte image)
+  pub certain : IsCertain w
 
 -- A run of an image that is kept by some bounds is kept by these, where each loop's bound is shown by the code or is no less than the other.
 abbrev pub ShownBoundsAreKept : Type 0
@@ -99,12 +107,12 @@ ShownBoundsAreKeptByReturns = (file : List ℕ) (image : Image) (levels : ℕ) (
     (n : ℕ) → ((m : ℕ) → m ≤ n → (rs : List ℕ) × (returns_so (run_of image levels input m).steps ≡ Some rs) × (length rs ≤ most_returns)) →
     IsKeptUpTo image levels input l n
 
--- Where the code says so of returns, each return of a run goes back behind its call, and calls are never too deep.
+-- Where the code says so of returns, each return of a tidy run goes back behind its call, and calls are never too deep.
 abbrev pub RunsComeBack : Type 0
 RunsComeBack = (t : Text) (env : Setting) (s : State) (code : Code) (v : Values) (w : Stacks) → IsStartOver t env s →
     IsReachedCode t code → IsStackInvariant t (text_graph t code) v w → ComesBack t (text_graph t code) v w →
     IsLaidOut env.layout w.areas w.fixed → AreTold v w s.pc (view_of w s.regs s.regs s.bytes) → AreBytes s.bytes → All (λ x. x < 256) env.input →
-    (n : ℕ) → (rs : List ℕ) × (returns_so (run env s n).steps ≡ Some rs) × (length rs ≤ most_returns)
+    (n : ℕ) → IsTidy v w env s n → (rs : List ℕ) × (returns_so (run env s n).steps ≡ Some rs) × (length rs ≤ most_returns)
 
 -- Where all bounds are shown, no loop has to turn and the code says so of returns, every run of the image is kept, on each input.
 abbrev pub RunsAreKept : Type 0

@@ -5,6 +5,7 @@ pub mod Digits
 pub mod Fixed
 pub mod Areas
 pub mod Stacks
+pub mod Tidy
 pub mod Counting
 pub mod Returning
 pub mod Laws

@@ -63,6 +63,10 @@ pub record Stacks : Type 0 where
   pub areas : ℕ → Option Arc
   -- by address, the byte that is always there
   pub fixed : ℕ → Option ℕ
+  -- by address, whether what the instruction stores is taken to miss all words that are kept
+  pub doubtful : ℕ → Bool
+  -- by function and number of a word of its stack: no doubtful instruction stores to it
+  pub kept : ℕ → ℕ → Bool
 
 -- What the code of a function sees: the registers, the words of its stack by number, the registers when it began, and memory.
 pub record View : Type 0 where
@@ -197,12 +201,14 @@ abbrev pub most_stored : Values → ℕ → Instr → ℕ
 most_stored v a Ecall = min 256 (top_of (held (v.at a) 12))
 most_stored v a i = width_stored i
 
--- it misses a word of the function's own stack, by the intervals or by how far both are above what x2 had when the function began
+-- It misses a word of the function's own stack: by the intervals, by how far both are above what x2 had when the function began, or because
+-- it is doubtful and the word is kept.
 abbrev pub IsMissed : Values → Stacks → ℕ → Instr → ℕ → Type 0
 IsMissed v w a i k =
     IsFar v a i (sum_with (w.begins (v.function a)) (w.offset k))
     ⊎ ((o : ℕ) × (stored_at w a i ≡ Some o) × IsApart o (width_stored i) (w.offset k))
     ⊎ AreApart (stored_span v w a i) (most_stored v a i) (Some (strided (w.offset k) 0 0))
+    ⊎ ((w.doubtful a ≡ true) × (w.kept (v.function a) k ≡ true))
 
 -- so many bytes fit between an address and what x2 had when the function began, which is above it, without wrapping
 abbrev pub IsBelow : Option Arc → ℕ → ℕ → Type 0
@@ -216,12 +222,13 @@ AreBelow (Some i) None width = ⊥
 AreBelow (Some i) (Some j) width = (i.low + i.more < 2 ^ 32) × (0 < j.low) × (j.low + j.more < 2 ^ 32) × (opposite_of j.low ≤ i.low) ×
     (width ≤ opposite_of (j.low + j.more))
 
--- it misses a word of what waits for the function
+-- it misses a word of what waits for the function, or is doubtful
 abbrev pub IsSparing : Values → Stacks → ℕ → Instr → ℕ → Type 0
 IsSparing v w a i k =
     IsFar v a i (w.place k)
     ⊎ ((o : ℕ) × (stored_at w a i ≡ Some o) × IsBelow (w.begins (v.function a)) o (width_stored i))
     ⊎ AreBelow (w.begins (v.function a)) (stored_span v w a i) (most_stored v a i)
+    ⊎ (w.doubtful a ≡ true)
 
 -- What the instruction at a stores misses the bytes of a cell, by the intervals of registers.
 abbrev pub IsClear : Values → ℕ → Instr → Cell → Type 0
@@ -389,8 +396,9 @@ pub record AreEntered (v : Values) (w : Stacks) (i : Instr) (a b : ℕ) : Type 0
 abbrev pub IsRestored : Text → Values → Stacks → ℕ → ℕ → ℕ → Type 0
 IsRestored t v w u to r = (w.restored (v.function to) r ≡ true) × (keeps_at t r u ≡ true)
 
--- A word of the stack of the function that calls is kept: nothing is stored to it, and it is not below x2 at the call.
+-- A word of the stack of the function that calls is as it was: nothing is stored to it, and it is not below x2 at the call.
 pub record IsSafe (v : Values) (w : Stacks) (u to k : ℕ) : Type 0 where
+  pub kept : w.kept (v.function u) k ≡ true
   pub spared : w.spared k to ≡ true
   pub place : Covers (w.place k) (sum_with (w.begins (v.function u)) (w.offset k))
   pub more : ℕ

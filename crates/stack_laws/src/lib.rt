@@ -3,9 +3,14 @@
 //! RISC-V Unprivileged ISA, RV32I; RISC-V ABIs Specification, Integer Calling Convention.
 #![tactic(auto)]
 
-ghost use Rattle.stack_laws.specs.Laws.{StackValuesHold, RestoredRegistersHold, StackCertificatesBoundTurns, ShownBoundsAreKept, ShownBoundsAreKeptByReturns, RunsComeBack, RunsAreKept};
+ghost use Rattle.stack_laws.specs.Laws.{CertainRunsAreTidy, StackValuesHold, RestoredRegistersHold, StackCertificatesBoundTurns, ShownBoundsAreKept, ShownBoundsAreKeptByReturns, RunsComeBack, RunsAreKept};
 
-/// What the tables say of registers and of words of the stack is so all along a run whose returns go back to their calls. So the registers
+/// Where nothing is doubtful every run is tidy.
+pub fn certain_runs_are_tidy()
+    ensures { CertainRunsAreTidy }
+{}
+
+/// What the tables say of registers and of words of the stack is so all along a tidy run whose returns go back to their calls. So the registers
 /// that a function restores are behind a call of it what they were before.
 pub fn stack_values_hold()
     ensures values { StackValuesHold }

@@ -1,5 +1,5 @@
 -- What the tables say at an address is what stands at the number of its node.
-use Rattle.std.proofs.Common.{◌≡◌, ℕ, zero, suc, ◌+◌, ◌*◌, ◌<◌, ◌≤◌, ◌∷◌, false, List, [], length, get_or, Option, Some, None, refl, sym, subst, ap, ◌∙◌}
+use Rattle.std.proofs.Common.{◌≡◌, ℕ, zero, suc, ◌+◌, ◌*◌, ◌<◌, ◌≤◌, ◌∷◌, true, false, List, [], length, get_or, Option, Some, None, refl, sym, subst, ap, ◌∙◌}
 use Rattle.std.specs.Prelude.{slice_get, option_map, IfSome, Vec}
 use Rattle.std.specs.declared.alloc.Global.{Global}
 use Rattle.std.proofs.lemmas.List.{length-map}
@@ -103,6 +103,10 @@ restored_seen c k f r owner = ap (λ (x : ℕ). flag (or_other [] (slice_get c.s
 pub spared_seen : (c : StackClaim) → IsStackClaim c → (k j : ℕ) → k < length c.graph.now.code.nodes → or_other false (slice_get c.stack.now.spared.items k) ≡ (stacks_in c).spared j (address c k)
 unfolding stacks_in
 spared_seen c is k j lt = seen false c is c.stack.now.spared.items is.stacks.spared k lt
+
+pub kept_seen : (c : StackClaim) (f k : ℕ) → true ≡ (stacks_in c).kept f k
+unfolding stacks_in
+kept_seen c f k = refl
 
 pub place_seen : (c : StackClaim) (j : ℕ) → c.stack.now.place ≡ (stacks_in c).place j
 unfolding stacks_in

@@ -1,6 +1,6 @@
 -- Scaffold: a table of stacks as what `stack_laws` calls stacks: by address what stands beside it in the list of nodes, by register what stands in the
 -- row, and by number of a word what stands in the row of words.
-use Rattle.std.specs.Prelude.{◌≡◌, ℕ, ◌+◌, ◌-◌, ◌*◌, ◌^◌, ◌<◌, ◌≤◌, ◌⊎◌, ◌&&◌, nat_le, nat_lt, find, Bool, false, List, [], length, slice_get, slice_index, map, option_map, option_and_then, Option, Some, None, Ok, Vec}
+use Rattle.std.specs.Prelude.{◌≡◌, ℕ, ◌+◌, ◌-◌, ◌*◌, ◌^◌, ◌<◌, ◌≤◌, ◌⊎◌, ◌&&◌, nat_le, nat_lt, find, Bool, true, false, List, [], length, slice_get, slice_index, map, option_map, option_and_then, Option, Some, None, Ok, Vec}
 use Rattle.std.specs.List.{All}
 use Rattle.std.specs.declared.alloc.Global.{Global}
 use Rattle.scale_base.specs.declared.instruction.Instr.{Instr}
@@ -117,6 +117,9 @@ stacks_of code stack = record {
   dwindling = λ a j. dwindling_in (dwindling_at code stack a) j;
   areas = λ k. slice_get stack.areas.items k;
   fixed = λ at. fixed_in stack.fixed.items at;
+  -- nothing is taken for granted
+  doubtful = λ a. false;
+  kept = λ f k. true;
 }
 
 -- the intervals of a word are short enough to be kept

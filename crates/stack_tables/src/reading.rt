@@ -213,6 +213,13 @@ pub fn is_spared(claim: &StackClaim<'_>, k: usize) -> bool
     spared_row(claim.stack, k)
 }
 
+/// Whether no store that is taken to miss the words of the stack may be to one: none is taken so.
+pub fn is_kept(claim: &StackClaim<'_>) -> bool
+    ensures { (f k : ℕ) → result ≡ (stacks_in claim.now).kept f k }
+{
+    true
+}
+
 /// Where those words may be.
 pub fn place(claim: &StackClaim<'_>) -> Option<Arc>
     requires { IsStackClaim claim.now }

@@ -8,7 +8,7 @@ ghost use Rattle.stack_tables.specs.Tables.{IsStackClaim, address, named, stacks
 
 use crate::apart::is_below;
 use crate::claims::StackClaim;
-use crate::reading::{begins, is_restored, is_spared, name, offset, place};
+use crate::reading::{begins, is_kept, is_restored, is_spared, name, offset, place};
 use crate::tables::Name;
 use scale_base::Instr;
 use wrapped_intervals::{covers, keeps, opposite_of, sum_with};
@@ -55,6 +55,7 @@ pub fn is_safe(claim: &StackClaim<'_>, u: usize, h: usize, number: u32) -> bool
     match descending(claim, u) {
         Some(more) => {
             is_spared(claim, h)
+                && is_kept(claim)
                 && is_placed(claim, u, number)
                 && opposite_of(offset(claim, number)) <= opposite_of(u64::from(more))
         }

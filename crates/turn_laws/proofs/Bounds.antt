@@ -21,13 +21,15 @@ use Rattle.bound_laws.proofs.Laws.{kept_too, not_broken, all_returns, kept_befor
 use Rattle.stack_laws.specs.Areas.{IsLaidOut}
 use Rattle.stack_laws.specs.Stacks.{Stacks, view_of, IsStackInvariant, AreTold}
 use Rattle.stack_laws.specs.Counting as counting
-use Rattle.stack_laws.proofs.Laws.{image_laid, image_told, runs_come_back}
+use Rattle.stack_laws.specs.Tidy.{IsTidy}
+use Rattle.stack_laws.proofs.Laws.{certain_tidy, tidy_before, image_laid, image_told, runs_come_back}
 use Rattle.stack_laws.proofs.Laws.{stacks_bound_turns}
 use Rattle.walk_areas.specs.Walking.{IsWalkShown}
 use Rattle.walk_areas.proofs.Laws.{walks_bound}
 use Rattle.turn_laws.specs.Relating.{IsInputWithin, IsShown, IsTurnShown}
-use Rattle.turn_laws.specs.Laws.{ShownBoundsAreKept, ShownBoundsAreKeptByReturns, RunsAreKept}
+use Rattle.turn_laws.specs.Laws.{TidyBoundsAreKept, TidyRunsAreKept, ShownBoundsAreKept, ShownBoundsAreKeptByReturns, RunsAreKept}
 use Rattle.turn_laws.proofs.Counts.{turns_bound}
+use Rattle.turn_laws.proofs.Keeping.{kept_while}
 
 few_turns : (count least width bound : ℕ) → 0 < least → count * least ≤ width → width / least ≤ bound → count ≤ bound
 few_turns count least width bound p a b = let q : count ≤ width / least = (le-div_iff_mul-le p).1 a in omega arith
@@ -40,31 +42,41 @@ same_leaving l bounds Return pc next k = refl
 
 module _ (t : Text) (env : Setting) (s : State) (code : Code) (v : Values) (w : Stacks) (most : Option ℕ) (l : Loops) (start : IsStartOver t env s) (reached : IsReachedCode t code) (inv : IsStackInvariant t (text_graph t code) v w)
     (laid : IsLaidOut env.layout w.areas w.fixed) (starts : AreTold v w s.pc (view_of w s.regs s.regs s.bytes)) (bytes : AreBytes s.bytes) (input : All (λ x. x < 256) env.input) (within : IsInputWithin most env.input) where
-  pub bounded : (k : ℕ) → IsShown t (text_graph t code) v w most l k → (n : ℕ) (d : Carried) → kept_at env s (unasked l) n ≡ Some d → d.counts k ≤ l.bound k
-  bounded k has n d kept = ⊎_elim
+  pub bounded : (k : ℕ) → IsShown t (text_graph t code) v w most l k → (n : ℕ) → IsTidy v w env s n → (d : Carried) → kept_at env s (unasked l) n ≡ Some d → d.counts k ≤ l.bound k
+  bounded k has n tidy d kept = ⊎_elim
       (λ (q : counting.IsShown t (text_graph t code) v w l k). few_turns (d.counts k) q.certificate.least q.certificate.width (l.bound k) q.positive
-      (stacks_bound_turns t env s code v w l k q.certificate start reached inv laid starts bytes input q.is q.within n d kept) q.enough)
+      (stacks_bound_turns t env s code v w l k q.certificate start reached inv laid starts bytes input q.is q.within n tidy d kept) q.enough)
       (λ (others : IsTurnShown t (text_graph t code) v w most l k ⊎ IsWalkShown t (text_graph t code) v w l k). ⊎_elim
       (λ (q : IsTurnShown t (text_graph t code) v w most l k). few_turns (d.counts k) q.certificate.least q.certificate.width (l.bound k) q.positive
-      (turns_bound t env s code v w most l k q.certificate start reached inv laid starts bytes input within q.is n d kept) q.enough)
+      (turns_bound t env s code v w most l k q.certificate start reached inv laid starts bytes input within q.is n tidy d kept) q.enough)
       (λ (q : IsWalkShown t (text_graph t code) v w l k). few_turns (d.counts k) q.certificate.least q.certificate.width (l.bound k) q.positive
-      (walks_bound t env s code v w l k q.certificate start reached inv laid starts bytes input q.is n d kept) q.enough) others) has
+      (walks_bound t env s code v w l k q.certificate start reached inv laid starts bytes input q.is n tidy d kept) q.enough) others) has
 
-  pub kept_by_shown : ((k : ℕ) → k < l.loops → IsShown t (text_graph t code) v w most l k × (l.least_trips k ≡ 0)) → (n : ℕ) (d : Carried) → kept_at env s (unasked l) n ≡ Some d → kept_at env s l n ≡ Some d
-  kept_by_shown has n d kept = kept_too l (unasked l) (λ c x. refl) env s
-      (λ n c d x whole k. not_broken l d.counts x
-      (λ j jl. bounded j (has j jl).0 (suc n) d whole)
-      (λ j jl left. let z : l.least_trips j ≡ 0 = (has j jl).1 in let r : l.least_trips j ≤ d.counts j = omega arith in r)) n d kept
+  pub kept_by_shown : ((k : ℕ) → k < l.loops → IsShown t (text_graph t code) v w most l k × (l.least_trips k ≡ 0)) → (n : ℕ) → IsTidy v w env s n → (d : Carried) → kept_at env s (unasked l) n ≡ Some d → kept_at env s l n ≡ Some d
+  kept_by_shown has n tidy d kept = kept_while l (unasked l) (λ c x. refl) env s (IsTidy v w env s) (tidy_before v w env s)
+      (λ n c d x tidy whole k. not_broken l d.counts x
+      (λ j jl. bounded j (has j jl).0 (suc n) tidy d whole)
+      (λ j jl left. let z : l.least_trips j ≡ 0 = (has j jl).1 in let r : l.least_trips j ≤ d.counts j = omega arith in r)) n tidy d kept
 
-  pub kept_by_bounds : (bounds : ℕ → ℕ) → ((k : ℕ) → k < l.loops → IsShown t (text_graph t code) v w most l k ⊎ (bounds k ≤ l.bound k)) → (n : ℕ) (d : Carried) → kept_at env s (with_bounds l bounds) n ≡ Some d → kept_at env s l n ≡ Some d
-  kept_by_bounds bounds has n d kept = kept_too l (with_bounds l bounds) (λ c x. refl) env s
-      (λ n c d x whole k.
+  pub kept_by_bounds : (bounds : ℕ → ℕ) → ((k : ℕ) → k < l.loops → IsShown t (text_graph t code) v w most l k ⊎ (bounds k ≤ l.bound k)) → (n : ℕ) → IsTidy v w env s n → (d : Carried) → kept_at env s (with_bounds l bounds) n ≡ Some d → kept_at env s l n ≡ Some d
+  kept_by_bounds bounds has n tidy d kept = kept_while l (with_bounds l bounds) (λ c x. refl) env s (IsTidy v w env s) (tidy_before v w env s)
+      (λ n c d x tidy whole k.
       let p = kept_parts (with_bounds l bounds) (counts_after l c x) x (returns_after c.returns x) d k in
       not_broken l d.counts x
       (λ j jl. ⊎_elim
-      (λ (b : IsShown t (text_graph t code) v w most l j). bounded j b (suc n) d (kept_too (unasked l) (with_bounds l bounds) (λ c x. refl) env s (λ n c d x whole k. refl) (suc n) d whole))
+      (λ (b : IsShown t (text_graph t code) v w most l j). bounded j b (suc n) tidy d (kept_too (unasked l) (with_bounds l bounds) (λ c x. refl) env s (λ n c d x whole k. refl) (suc n) d whole))
       (λ (low : bounds j ≤ l.bound j). let q : counts_after l c x j ≤ bounds j = p.2 j jl in let e : counts_after l c x j ≡ d.counts j = ap (λ f. f j) p.1 in let r : d.counts j ≤ l.bound j = omega arith in r) (has j jl))
-      (λ j jl left. subst (λ f. l.least_trips j ≤ f j) p.1 (p.3 j jl (same_leaving l bounds x.moved x.pc x.next j ∙ left)))) n d kept
+      (λ j jl left. subst (λ f. l.least_trips j ≤ f j) p.1 (p.3 j jl (same_leaving l bounds x.moved x.pc x.next j ∙ left)))) n tidy d kept
+
+pub tidy_bounds : TidyBoundsAreKept
+tidy_bounds t env s code v w most l bounds start reached inv laid starts bytes input within which n tidy d kept =
+    kept_by_bounds t env s code v w most l start reached inv laid starts bytes input within bounds which n tidy d kept
+
+pub tidy_runs : TidyRunsAreKept
+tidy_runs t env s code v w most l start reached inv comes laid starts bytes input within which n tidy =
+    let q = runs_come_back t env s code v w start reached inv comes laid starts bytes input n tidy in
+    let k = all_returns env s l n q.0 q.1 in
+    (k.0, kept_by_shown t env s code v w most l start reached inv laid starts bytes input within which n tidy k.0 k.1, subst (λ rs. length rs ≤ most_returns) (sym k.2) q.2)
 
 some_same : (x y : Carried) → Some x ≡ Some y → x ≡ y
 some_same x y e = let r : x ≡ y = cc in r
@@ -87,7 +99,7 @@ shown_kept file image levels input code v w most l bounds read small_file small_
     s = start_of image levels
 
     by : (m : ℕ) (d : Carried) → kept_at env s (with_bounds l bounds) m ≡ Some d → kept_at env s l m ≡ Some d
-    by m d h = kept_by_bounds (text_of image) env s code v w most l (image_starts file image levels input read) ana.reached ana.invariant (image_laid image code v w ana) (image_told image levels code v w ana) (loaded_small file image read small_file) small_input within bounds which m d h
+    by m d h = kept_by_bounds (text_of image) env s code v w most l (image_starts file image levels input read) ana.reached ana.invariant (image_laid image code v w ana) (image_told image levels code v w ana) (loaded_small file image read small_file) small_input within bounds which m (certain_tidy v w env s ana.certain m) d h
 
 pub shown_by_returns : ShownBoundsAreKeptByReturns
 unfolding run_of
@@ -108,7 +120,7 @@ shown_by_returns file image levels input code v w most l read small_file small_i
     s = start_of image levels
 
     by : (m : ℕ) (d : Carried) → kept_at env s (unasked l) m ≡ Some d → kept_at env s l m ≡ Some d
-    by m d h = kept_by_shown (text_of image) env s code v w most l (image_starts file image levels input read) ana.reached ana.invariant (image_laid image code v w ana) (image_told image levels code v w ana) (loaded_small file image read small_file) small_input within which m d h
+    by m d h = kept_by_shown (text_of image) env s code v w most l (image_starts file image levels input read) ana.reached ana.invariant (image_laid image code v w ana) (image_told image levels code v w ana) (loaded_small file image read small_file) small_input within which m (certain_tidy v w env s ana.certain m) d h
 
     here : (m : ℕ) → m ≤ n → (d : Carried) × (kept_at env s l m ≡ Some d) × (length d.returns ≤ most_returns)
     here m le =
@@ -120,4 +132,5 @@ pub runs_kept : RunsAreKept
 unfolding run_of
 runs_kept file image levels input code v w most l read small_file small_input within ana comes which n =
     shown_by_returns file image levels input code v w most l read small_file small_input within ana which n (λ m le.
-    runs_come_back (text_of image) (setting_of image levels input) (start_of image levels) code v w (image_starts file image levels input read) ana.reached ana.invariant comes (image_laid image code v w ana) (image_told image levels code v w ana) (loaded_small file image read small_file) small_input m)
+    runs_come_back (text_of image) (setting_of image levels input) (start_of image levels) code v w (image_starts file image levels input read) ana.reached ana.invariant comes (image_laid image code v w ana) (image_told image levels code v w ana) (loaded_small file image read small_file) small_input m
+    (certain_tidy v w (setting_of image levels input) (start_of image levels) ana.certain m))

@@ -4,5 +4,6 @@ mod Facts
 mod Turns
 mod Steps
 mod Counts
+mod Keeping
 mod Bounds
 pub mod Laws

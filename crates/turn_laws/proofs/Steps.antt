@@ -17,6 +17,7 @@ use Rattle.bound_laws.specs.Registers.{keeps}
 use Rattle.bound_laws.specs.Values.{Arc, IsHeld, held, least_of, passed, Said, said, IsRegister, Values, AreBytes}
 use Rattle.bound_laws.proofs.Laws.{IsSo, held_of, so_behind, step_of, steps_leave}
 use Rattle.stack_laws.specs.Stacks.{Stacks, View, view_of, IsStoredFrom, IsMissed, AreTold}
+use Rattle.stack_laws.specs.Tidy.{AreKept}
 use Rattle.stack_laws.proofs.Laws.{gets, puts, misses}
 use Rattle.turn_laws.specs.Relating.{Relation, IsRelated, IsWeaker, made, made_too, moved_by_number, moved_by_arc, moved_back, multiplied, divided, lowered, is_low, are_low, bits_off, are_ordered, first_related, second_related, Place, TurnCertificate, row_of, IsMadeOver, IsLoadedOwn, IsRelatedBy, IsRowOn, IsRowOver, IsWordOver, IsPlaceOn, IsEvident, IsError, IsReadInto, IsCounted, IsTakenOn, consumed_by, read_number}
 use Rattle.turn_laws.specs.Relating.Relation.{unknown, read}
@@ -27,6 +28,7 @@ use Rattle.turn_laws.proofs.Facts.{Facts, IsPlaceRelated}
 
 module _ (env : Setting) (keyless : env.layout.keyed ≡ None) (v : Values) (w : Stacks) (offsets : (k : ℕ) → w.offset k < 2 ^ 32) (s : State) (zero_is : reg s.regs 0 ≡ 0) (size : length s.regs ≡ 32) (begun : List ℕ)
     (told : AreTold v w s.pc (view_of w begun s.regs s.bytes)) (i : Instr) (here : instr_of (word_at s.bytes s.pc) ≡ Some i) (x : Stepped) (went : (step env s).end ≡ Went x)
+    (own : w.doubtful s.pc ≡ true → AreKept w s.bytes (step env s).state.bytes (record { function = v.function s.pc; stack = reg begun 2 }))
     (c : TurnCertificate) (count : ℕ) (facts : Facts c (left env s) s.pc count (view_of w begun s.regs s.bytes)) where
   abbrev after : State
   after = (step env s).state
@@ -292,7 +294,7 @@ module _ (env : Setting) (keyless : env.layout.keyed ≡ None) (v : Values) (w :
   pub word_holds : (k : ℕ) → c.place ≡ in_word k → (b : Relation) → IsWordOver v w c s.pc i k b → IsRelated rest b start (then.words k)
   word_holds k same b over = ⊎_elim
       (λ (q : IsMissed v w s.pc i k × IsWeaker b (c.own s.pc)). weaker_in rest b (c.own s.pc) start (then.words k)
-      (subst (λ n. IsRelated rest (c.own s.pc) start n) (sym (misses env keyless v w offsets s zero_is size begun told i here k q.0)) (own_now k same)) q.1)
+      (subst (λ n. IsRelated rest (c.own s.pc) start n) (sym (misses env keyless v w offsets s zero_is size begun told i here own k q.0)) (own_now k same)) q.1)
       (λ (q : (r : ℕ) × IsStoredFrom w s.pc i k r × IsWeaker b (row_of c s.pc r)). weaker_in rest b (row_of c s.pc q.0) start (then.words k)
       (subst (λ n. IsRelated rest (row_of c s.pc q.0) start n) (sym (puts env keyless v w offsets s zero_is size begun told i here x went k q.0 q.1))
       (same_in rest (row_of c s.pc q.0) start (reg s.regs q.0) (reg s.regs q.0 % 2 ^ 32) (let e : reg s.regs q.0 % 2 ^ 32 % 2 ^ 32 ≡ reg s.regs q.0 % 2 ^ 32 = omega arith in e) (related q.0))) q.2) over

@@ -15,17 +15,37 @@ use Rattle.bound_laws.specs.Turning.{unasked, with_bounds}
 use Rattle.bound_laws.specs.Values.{Values, AreBytes}
 use Rattle.stack_laws.specs.Areas.{IsLaidOut}
 use Rattle.stack_laws.specs.Stacks.{Stacks, view_of, IsStackInvariant, AreTold}
+use Rattle.stack_laws.specs.Tidy.{IsTidy}
 use Rattle.stack_laws.specs.Returning.{ComesBack}
 use Rattle.stack_laws.specs.Laws.{IsStackAnalysed}
 use Rattle.turn_laws.specs.Relating.{TurnCertificate, IsTurnCertificate, IsShown, IsInputWithin}
 
--- As long as the returns of a run go back to their calls, a loop with a certificate turns no more often than its width allows.
+-- As long as a run is tidy and its returns go back to their calls, a loop with a certificate turns no more often than its width allows.
 abbrev pub TurnCertificatesBoundTurns : Type 0
 TurnCertificatesBoundTurns = (t : Text) (env : Setting) (s : State) (code : Code) (v : Values) (w : Stacks) (most : Option ℕ)
     (l : Loops) (k : ℕ) (c : TurnCertificate) → IsStartOver t env s → IsReachedCode t code → IsStackInvariant t (text_graph t code) v w →
     IsLaidOut env.layout w.areas w.fixed → AreTold v w s.pc (view_of w s.regs s.regs s.bytes) → AreBytes s.bytes → All (λ x. x < 256) env.input →
     IsInputWithin most env.input → IsTurnCertificate t (text_graph t code) v w most (l.header k) (l.inside k) c →
-    (n : ℕ) (d : Carried) → kept_at env s (unasked l) n ≡ Some d → d.counts k * c.least ≤ c.width
+    (n : ℕ) → IsTidy v w env s n → (d : Carried) → kept_at env s (unasked l) n ≡ Some d → d.counts k * c.least ≤ c.width
+
+-- As long as a run is tidy and its returns go back to their calls it is kept by these bounds, where each is shown by the code or is no less than
+-- one by which it is kept.
+abbrev pub TidyBoundsAreKept : Type 0
+TidyBoundsAreKept = (t : Text) (env : Setting) (s : State) (code : Code) (v : Values) (w : Stacks) (most : Option ℕ) (l : Loops)
+    (bounds : ℕ → ℕ) → IsStartOver t env s → IsReachedCode t code → IsStackInvariant t (text_graph t code) v w →
+    IsLaidOut env.layout w.areas w.fixed → AreTold v w s.pc (view_of w s.regs s.regs s.bytes) → AreBytes s.bytes → All (λ x. x < 256) env.input →
+    IsInputWithin most env.input →
+    ((k : ℕ) → k < l.loops → IsShown t (text_graph t code) v w most l k ⊎ (bounds k ≤ l.bound k)) →
+    (n : ℕ) → IsTidy v w env s n → (d : Carried) → kept_at env s (with_bounds l bounds) n ≡ Some d → kept_at env s l n ≡ Some d
+
+-- As long as a run is tidy it is kept, where all bounds are shown, no loop has to turn and the code says so of returns.
+abbrev pub TidyRunsAreKept : Type 0
+TidyRunsAreKept = (t : Text) (env : Setting) (s : State) (code : Code) (v : Values) (w : Stacks) (most : Option ℕ) (l : Loops) →
+    IsStartOver t env s → IsReachedCode t code → IsStackInvariant t (text_graph t code) v w → ComesBack t (text_graph t code) v w →
+    IsLaidOut env.layout w.areas w.fixed → AreTold v w s.pc (view_of w s.regs s.regs s.bytes) → AreBytes s.bytes → All (λ x. x < 256) env.input →
+    IsInputWithin most env.input →
+    ((k : ℕ) → k < l.loops → IsShown t (text_graph t code) v w most l k × (l.least_trips k ≡ 0)) →
+    (n : ℕ) → IsTidy v w env s n → (d : Carried) × (kept_at env s l n ≡ Some d) × (length d.returns ≤ most_returns)
 
 -- A run of an image that is kept by some bounds is kept by these, where each loop's bound is shown by the code or is no less than the other.
 abbrev pub ShownBoundsAreKept : Type 0

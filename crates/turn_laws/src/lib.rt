@@ -3,11 +3,18 @@
 //! RV32I and the extension M.
 #![tactic(auto)]
 
-ghost use Rattle.turn_laws.specs.Laws.{TurnCertificatesBoundTurns, ShownBoundsAreKept, ShownBoundsAreKeptByReturns, RunsAreKept};
+ghost use Rattle.turn_laws.specs.Laws.{TurnCertificatesBoundTurns, TidyBoundsAreKept, TidyRunsAreKept, ShownBoundsAreKept, ShownBoundsAreKeptByReturns, RunsAreKept};
 
-/// A loop turns at most as often as a certificate of its turns allows, as long as the returns of the run go back to their calls.
+/// A loop turns at most as often as a certificate of its turns allows, as long as the run is tidy and its returns go back to their calls.
 pub fn turn_certificates_bound_turns()
     ensures { TurnCertificatesBoundTurns }
+{}
+
+/// A tidy run breaks no bound that tables of its code show, before it breaks a return address or another bound. Where all bounds are shown, and
+/// the code says of returns that they go back, it is kept as long as it is tidy.
+pub fn tidy_runs_are_kept()
+    ensures bounds { TidyBoundsAreKept }
+    ensures kept { TidyRunsAreKept }
 {}
 
 /// A run of an image breaks no bound that tables of its code show, in one way or in the other, before it breaks a return address or another

@@ -9,7 +9,7 @@ use Rattle.code_text.specs.Text.{text_of}
 use Rattle.code_text.specs.TextGraph.{text_graph}
 use Rattle.graph_runs.proofs.Laws.{image_starts}
 use Rattle.bound_laws.proofs.Laws.{loaded_small}
-use Rattle.stack_laws.proofs.Laws.{image_laid, image_told}
+use Rattle.stack_laws.proofs.Laws.{certain_tidy, image_laid, image_told}
 use Rattle.turn_laws.proofs.Laws.{bounded}
 use Rattle.loop_file.specs.declared.notes.LoopNote.{LoopNote}
 use Rattle.loop_file.specs.Kept.{note_at, noted_loops}
@@ -51,7 +51,8 @@ module _ (file : List ℕ) (image : Image) (levels : ℕ) (input : List ℕ) (dr
       let l = noted_loops notes in
       let own = shown_as t g found.values found.stacks None (noted_loops drafted) l k k (sym is.header) (one_extent (note_at drafted k) (note_at notes k) is.header is.ranges) (sym is.bound) (shown drafted k refl) in
       bounded t (setting_of image levels input) (start_of image levels) found.code found.values found.stacks None l (image_starts file image levels input read) found.analysed.reached found.analysed.invariant
-      (image_laid image found.code found.values found.stacks found.analysed) (image_told image levels found.code found.values found.stacks found.analysed) (loaded_small file image read small_file) small_input tt k own n d kept
+      (image_laid image found.code found.values found.stacks found.analysed) (image_told image levels found.code found.values found.stacks found.analysed) (loaded_small file image read small_file) small_input tt k own n
+      (certain_tidy found.values found.stacks (setting_of image levels input) (start_of image levels) found.analysed.certain n) d kept
 
   pub bound_kept : k < length drafted → AreNotesDrafted file image drafted → IsBoundKept image levels input (noted_loops notes) k
   bound_kept kl made = ⊎_elim

@@ -1,5 +1,5 @@
 -- Where the pointer is when the loop is entered.
-use Rattle.std.proofs.Common.{◌≡◌, ℕ, ◌+◌, ◌*◌, ◌<◌, ◌%◌, ◌^◌, ⊎_elim, List, length, sym, ap, ◌∙◌, subst, arith, Option, Some, None}
+use Rattle.std.proofs.Common.{◌≡◌, ℕ, ◌+◌, ◌*◌, ◌<◌, ◌%◌, ◌^◌, ⊎_elim, true, List, length, sym, ap, ◌∙◌, subst, arith, Option, Some, None}
 use Rattle.std.proofs.lemmas.Nat.{mul-mod_second}
 use Rattle.scale_base.specs.declared.instruction.Instr.{Instr}
 use Rattle.scale_base.specs.declared.stepping.Stepped.{Stepped}
@@ -11,6 +11,7 @@ use Rattle.scale_base.specs.Step.{step}
 use Rattle.bound_laws.specs.Values.{Arc, IsHeld, held, passed, scaled, sum_of, sum_with, Values, AreBytes}
 use Rattle.bound_laws.proofs.Laws.{held_of, in_covers, passed_in, scaled_in, sum_in, sum_with_in}
 use Rattle.stack_laws.specs.Stacks.{Stacks, View, view_of, AreTold}
+use Rattle.stack_laws.specs.Tidy.{AreKept}
 use Rattle.stack_laws.proofs.Laws.{misses, puts}
 use Rattle.walk_areas.specs.Walking.{Place, number_in, WalkCertificate, IsArcOver, aimed_in, IsStarted, IsStartedBy}
 use Rattle.walk_areas.specs.Walking.Place.{in_register, in_word}
@@ -26,7 +27,8 @@ aimed_plus : (p q a b at : ℕ) → p ≡ a % 2 ^ 32 → q ≡ b % 2 ^ 32 → pl
 aimed_plus p q a b at e f = omega arith
 
 module _ (env : Setting) (keyless : env.layout.keyed ≡ None) (v : Values) (w : Stacks) (offsets : (k : ℕ) → w.offset k < 2 ^ 32) (s : State) (zero_is : reg s.regs 0 ≡ 0) (size : length s.regs ≡ 32) (begun : List ℕ)
-    (told : AreTold v w s.pc (view_of w begun s.regs s.bytes)) (i : Instr) (here : instr_of (word_at s.bytes s.pc) ≡ Some i) (x : Stepped) (went : (step env s).end ≡ Went x) (memory : AreBytes s.bytes)
+    (told : AreTold v w s.pc (view_of w begun s.regs s.bytes)) (i : Instr) (here : instr_of (word_at s.bytes s.pc) ≡ Some i) (x : Stepped) (went : (step env s).end ≡ Went x)
+    (own : w.doubtful s.pc ≡ true → AreKept w s.bytes (step env s).state.bytes (record { function = v.function s.pc; stack = reg begun 2 })) (memory : AreBytes s.bytes)
     (c : WalkCertificate) where
   abbrev after : State
   after = (step env s).state
@@ -42,7 +44,7 @@ module _ (env : Setting) (keyless : env.layout.keyed ≡ None) (v : Values) (w :
       subst (Has arc) (sym at) (subst (λ o. IsHeld o (reg after.regs r)) (sym e) (passed_in env keyless s (v.at s.pc) zero_is size told.registers.each memory i r x here went is))
   arc_over p arc (missed k at far e) =
       subst (Has arc) (sym at) (subst (λ o. IsHeld o (then.words k)) (sym e)
-      (subst (IsHeld (w.word s.pc k)) (sym (misses env keyless v w offsets s zero_is size begun told i here k far)) (told.words k)))
+      (subst (IsHeld (w.word s.pc k)) (sym (misses env keyless v w offsets s zero_is size begun told i here own k far)) (told.words k)))
   arc_over p arc (stored k r at stores e) =
       subst (Has arc) (sym at) (subst (λ o. IsHeld o (then.words k)) (sym e)
       (subst (IsHeld (held (v.at s.pc) r)) (sym (puts env keyless v w offsets s zero_is size begun told i here x went k r stores))

@@ -21,6 +21,7 @@ use Rattle.bound_laws.proofs.Laws.{held_of, in_covers, only_one, passed_in, step
 use Rattle.stack_laws.specs.Areas.{IsAccess, IsLaidOut}
 use Rattle.stack_laws.specs.Areas.IsAccess.{loads as on_load, stores as on_store}
 use Rattle.stack_laws.specs.Stacks.{Stacks, View, view_of, AreTold}
+use Rattle.stack_laws.specs.Tidy.{AreKept}
 use Rattle.stack_laws.proofs.Laws.{gets, puts, misses, reads, reads_aligned, usable, numbers, results}
 use Rattle.walk_areas.specs.Walking.{Trace, IsTraced, IsWider, moved_by_number, sum_of_both, multiplied, Place, number_in, Sought, WalkCertificate, row_of, operand, aim, IsRowOver, IsWordOver, IsPlaceOver, IsAimed, IsSearching, IsHolderOver, IsFound, IsTouched, IsBarren, IsGround}
 use Rattle.walk_areas.specs.Walking.IsRowOver.{untraced, kept, summed, added, shifted, loaded as loaded_row}
@@ -68,6 +69,7 @@ same_address op rd rs1 offset regs i r more (on_store op2 rs2 offset2 is e) l =
 
 module _ (env : Setting) (keyless : env.layout.keyed ≡ None) (v : Values) (w : Stacks) (offsets : (k : ℕ) → w.offset k < 2 ^ 32) (s : State) (zero_is : reg s.regs 0 ≡ 0) (size : length s.regs ≡ 32) (begun : List ℕ)
     (told : AreTold v w s.pc (view_of w begun s.regs s.bytes)) (i : Instr) (here : instr_of (word_at s.bytes s.pc) ≡ Some i) (x : Stepped) (went : (step env s).end ≡ Went x)
+    (own : w.doubtful s.pc ≡ true → AreKept w s.bytes (step env s).state.bytes (record { function = v.function s.pc; stack = reg begun 2 }))
     (c : WalkCertificate) (ground : IsGround w.areas w.fixed c) (count : ℕ) (facts : Facts w.areas w.fixed c ground s.pc count (view_of w begun s.regs s.bytes)) where
   abbrev after : State
   after = (step env s).state
@@ -118,7 +120,7 @@ module _ (env : Setting) (keyless : env.layout.keyed ≡ None) (v : Values) (w :
   word_over k b (untraced_word e) = none_in b (then.words k) e
   word_over k b (missed far q) =
       wider b (c.word s.pc k) (then.words k)
-      (subst (Has (c.word s.pc k)) (sym (misses env keyless v w offsets s zero_is size begun told i here k far)) (facts.words k)) q
+      (subst (Has (c.word s.pc k)) (sym (misses env keyless v w offsets s zero_is size begun told i here own k far)) (facts.words k)) q
   word_over k b (stored r stores q) =
       wider b (operand v c s.pc r) (then.words k)
       (subst (Has (operand v c s.pc r)) (sym (puts env keyless v w offsets s zero_is size begun told i here x went k r stores))

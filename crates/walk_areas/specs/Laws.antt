@@ -12,12 +12,14 @@ use Rattle.bound_laws.specs.Turning.{unasked}
 use Rattle.bound_laws.specs.Values.{Values, AreBytes}
 use Rattle.stack_laws.specs.Areas.{IsLaidOut}
 use Rattle.stack_laws.specs.Stacks.{Stacks, view_of, IsStackInvariant, AreTold}
+use Rattle.stack_laws.specs.Tidy.{IsTidy}
 use Rattle.walk_areas.specs.Walking.{WalkCertificate, IsWalkCertificate}
 
--- As long as the returns of a run go back to their calls, a loop with a certificate of a walk turns no more often than its width allows.
+-- As long as a run is tidy and its returns go back to their calls, a loop with a certificate of a walk turns no more often than its width
+-- allows.
 abbrev pub WalkCertificatesBoundTurns : Type 0
 WalkCertificatesBoundTurns = (t : Text) (env : Setting) (s : State) (code : Code) (v : Values) (w : Stacks) (l : Loops) (k : ℕ)
     (c : WalkCertificate) → IsStartOver t env s → IsReachedCode t code → IsStackInvariant t (text_graph t code) v w →
     IsLaidOut env.layout w.areas w.fixed → AreTold v w s.pc (view_of w s.regs s.regs s.bytes) → AreBytes s.bytes → All (λ x. x < 256) env.input →
     IsWalkCertificate t (text_graph t code) v w (l.header k) (l.inside k) c →
-    (n : ℕ) (d : Carried) → kept_at env s (unasked l) n ≡ Some d → d.counts k * c.least ≤ c.width
+    (n : ℕ) → IsTidy v w env s n → (d : Carried) → kept_at env s (unasked l) n ≡ Some d → d.counts k * c.least ≤ c.width

@@ -5,7 +5,7 @@
 
 ghost use Rattle.walk_areas.specs.Laws.{WalkCertificatesBoundTurns};
 
-/// A loop turns at most as often as a certificate of its walk allows, as long as the returns of the run go back to their calls.
+/// A loop turns at most as often as a certificate of its walk allows, as long as the run is tidy and its returns go back to their calls.
 pub fn walk_certificates_bound_turns()
     ensures { WalkCertificatesBoundTurns }
 {}
