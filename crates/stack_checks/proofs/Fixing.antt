@@ -1,23 +1,23 @@
 -- What loads at the addresses of an interval give, and that no store changes the bytes of parts that the image has.
-use Rattle.std.proofs.Common.{◌≡◌, ◌<◌, ◌≤◌, ◌+◌, ◌-◌, ◌*◌, ◌/◌, ◌%◌, ◌^◌, get_or, ℕ, zero, suc, Bool, true, false, ◌&&◌, not, List, [], ◌∷◌, length, refl, sym, ap, ◌∙◌, subst, arith, Option, Some, None, cond}
+use Rattle.std.proofs.Common.{◌≡◌, ◌<◌, ◌≤◌, ◌+◌, ◌-◌, ◌*◌, ◌/◌, ◌%◌, ◌^◌, ℕ, suc, Bool, true, false, ◌&&◌, not, List, [], ◌∷◌, length, refl, sym, ap, ◌∙◌, subst, arith, Option, Some, None}
 use Rattle.std.specs.List.{All, find, list_any, filter}
-use Rattle.std.specs.Prelude.{map, slice_get, slice_index, nat_le, nat_lt}
-use Rattle.std.proofs.lemmas.Bool.{and_parts, and_from, both_ways, cond_both, false_from_ne_true, leb-true, ltb-true, or_from}
+use Rattle.std.specs.Prelude.{map, slice_get, nat_le, nat_lt}
+use Rattle.std.proofs.lemmas.Bool.{and_parts, both_ways, cond_both, false_from_ne_true, leb-true, ltb-true, or_from}
 use Rattle.std.proofs.lemmas.Option.{get_or_from_slice_get}
 use Rattle.flow_graph.proofs.Laws.{some_is}
 use Rattle.scale_base.specs.declared.instruction.LoadOp.{LoadOp}
 use Rattle.scale_base.specs.declared.ranges.Span.{Span}
 use Rattle.scale_base.specs.Elf.{has}
 use Rattle.scale_base.specs.Spans.{in_span}
-use Rattle.scale_base.specs.Image.{Image, LoadSegment, PF_W, addresses_of, loaded_byte, stack}
+use Rattle.scale_base.specs.Image.{Image, LoadSegment, PF_W, addresses_of, loaded_byte}
 use Rattle.scale_base.specs.Layout.{Part, part_of, is_plain_segment, in_stack, in_text, layout_of, may_write}
-use Rattle.bound_laws.specs.Values.{Arc, IsIn, ahead}
+use Rattle.bound_laws.specs.Values.{Arc}
 use Rattle.stack_laws.specs.Fixed.{AreFixedIn, AreUnwritten, GivesFixed}
 use Rattle.stack_tables.specs.declared.tables.FixedPart.{FixedPart}
 use Rattle.stack_tables.specs.Tables.{byte_of, fixed_in, has_address}
 use Rattle.stack_tables.proofs.Laws.{each_number}
 use Rattle.stack_checks.specs.declared.cells.Loading.{Loading}
-use Rattle.stack_checks.specs.Checked.{GivesAt, HasBytes, IsApartFrom, IsFixedPart, IsUnwrittenIn}
+use Rattle.stack_checks.specs.Checked.{GivesAt, IsApartFrom, IsFixedPart}
 
 -- ---- loads
 

@@ -29,7 +29,7 @@ use Rattle.stack_laws.specs.Stacks.{Stacks, View, view_of, word_address, IsNamed
 use Rattle.stack_laws.specs.Stacks.Name.{of_word}
 use Rattle.stack_laws.specs.Counting.{Counter, counted, HasRegisters, IsAdded}
 use Rattle.stack_laws.specs.Counting.Counter.{in_registers, in_word}
-use Rattle.stack_laws.specs.Tidy.{Activation, AreKept, IsTidyStep, IsTidy, activations}
+use Rattle.stack_laws.specs.Tidy.{AreKept, IsTidyStep, IsTidy, activations}
 use Rattle.stack_laws.specs.Laws.{StackValuesHold}
 use Rattle.std.proofs.lemmas.Nat.{mod_below}
 use Rattle.stack_laws.proofs.Covering.{IsSo}

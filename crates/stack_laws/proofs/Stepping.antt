@@ -19,7 +19,7 @@ use Rattle.bound_laws.specs.Values.{Arc, strided, IsHeld, sum_with, top_of, held
 use Rattle.bound_laws.specs.Registers.{keeps}
 use Rattle.bound_laws.proofs.Laws.{sum_with_in, below_top, held_of, step_of}
 use Rattle.stack_laws.specs.Stacks.{known_sum, span_of, IsSpanned, stored_span, most_stored, AreBelow, Stacks, View, view_of, word_address, IsNamed, name_of, offset_of, stored_at, loaded_at, width_stored, word_stored, word_loaded, IsStoredFrom, IsLoadedTo, IsApart, AreApart, HasNot, IsFar, IsMissed, IsBelow, IsSparing, AreTold}
-use Rattle.stack_laws.specs.Tidy.{Activation, AreKept}
+use Rattle.stack_laws.specs.Tidy.{AreKept}
 use Rattle.stack_laws.proofs.Stores.{AreOut, AreSame, word_same, apart_out, stores_keep, served_keeps, stores_put, loads_get}
 use Rattle.stack_laws.proofs.Naming.{held_small, span_sum, places_apart, span_apart, span_below, plus_small, are_apart, apart_small, less_apart, has_not, is_below, offset_small, offset_is}
 

@@ -1,5 +1,5 @@
 -- Of tidy runs: what comes before them, their steps, and the activations behind a step.
-use Rattle.std.proofs.Common.{◌≡◌, ℕ, suc, ◌<◌, ◌≤◌, List, [], ◌∷◌, refl, sym, ap, ◌∙◌, subst, arith}
+use Rattle.std.proofs.Common.{◌≡◌, ℕ, suc, ◌≤◌, List, [], ◌∷◌, refl, sym, ap, ◌∙◌, subst, arith}
 use Rattle.std.proofs.lemmas.Bool.{both_ways}
 use Rattle.scale_base.specs.declared.stepping.Move.{Move}
 use Rattle.scale_base.specs.declared.stepping.Move.TheVariants.{Local, Call, Return}
@@ -10,7 +10,7 @@ use Rattle.scale_base.specs.Step.{step}
 use Rattle.scale_base.specs.Run.{run}
 use Rattle.bound_laws.specs.Values.{Values}
 use Rattle.stack_laws.specs.Stacks.{Stacks, View, view_of}
-use Rattle.stack_laws.specs.Tidy.{Activation, begun_at, without_first, activations_by, activations_behind, activations, AreAllKept, IsTidyStep, IsTidy, IsCertain}
+use Rattle.stack_laws.specs.Tidy.{Activation, activations_by, activations_behind, activations, IsTidyStep, IsTidy, IsCertain}
 use Rattle.stack_laws.specs.Laws.{CertainRunsAreTidy}
 use Rattle.stack_laws.proofs.Frames.{waiting}
 

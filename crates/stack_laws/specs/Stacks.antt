@@ -49,8 +49,8 @@ pub record Stacks : Type 0 where
   pub restored : ℕ → ℕ → Bool
   -- by number, the addresses of the word while its function waits for a call to come back
   pub place : ℕ → Option Arc
-  -- By number of a word and address: from here on up to the function's return nothing is stored to the word of a function that waits, in what
-  -- is called neither.
+  -- By number of a word and address: from here on up to the function's return nothing but what is doubtful is stored to the word of a function
+  -- that waits, in what is called neither.
   pub spared : ℕ → ℕ → Bool
   -- by number, numbers in memory that are always in an interval
   pub cell : ℕ → Option Cell

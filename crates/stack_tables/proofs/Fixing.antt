@@ -1,5 +1,5 @@
 -- The byte at an address by the first part that has it.
-use Rattle.std.proofs.Common.{◌≡◌, ◌<◌, ◌≤◌, ◌+◌, ◌-◌, get_or, ℕ, zero, suc, Bool, true, cond, List, [], ◌∷◌, length, drop, refl, sym, ap, ◌∙◌, subst, arith, Option, Some}
+use Rattle.std.proofs.Common.{◌≡◌, ◌<◌, ◌≤◌, ◌+◌, ◌-◌, get_or, ℕ, zero, suc, Bool, true, cond, List, [], ◌∷◌, length, drop, sym, ap, ◌∙◌, subst, arith, Some}
 use Rattle.std.specs.List.{find}
 use Rattle.std.specs.Prelude.{slice_get, nat_le, nat_lt}
 use Rattle.std.proofs.lemmas.Bool.{and_parts, cond-true, leb-true, ltb-true}

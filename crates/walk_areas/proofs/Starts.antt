@@ -1,5 +1,5 @@
 -- Where the pointer is when the loop is entered.
-use Rattle.std.proofs.Common.{◌≡◌, ℕ, ◌+◌, ◌*◌, ◌<◌, ◌%◌, ◌^◌, ⊎_elim, true, List, length, sym, ap, ◌∙◌, subst, arith, Option, Some, None}
+use Rattle.std.proofs.Common.{◌≡◌, ℕ, ◌+◌, ◌*◌, ◌<◌, ◌%◌, ◌^◌, ⊎_elim, true, List, length, sym, subst, arith, Option, Some, None}
 use Rattle.std.proofs.lemmas.Nat.{mul-mod_second}
 use Rattle.scale_base.specs.declared.instruction.Instr.{Instr}
 use Rattle.scale_base.specs.declared.stepping.Stepped.{Stepped}
@@ -8,13 +8,12 @@ use Rattle.scale_base.specs.Reading.{instr_of}
 use Rattle.scale_base.specs.Arith.{plus}
 use Rattle.scale_base.specs.State.{Setting, State, reg, word_at}
 use Rattle.scale_base.specs.Step.{step}
-use Rattle.bound_laws.specs.Values.{Arc, IsHeld, held, passed, scaled, sum_of, sum_with, Values, AreBytes}
+use Rattle.bound_laws.specs.Values.{Arc, IsHeld, held, scaled, sum_of, Values, AreBytes}
 use Rattle.bound_laws.proofs.Laws.{held_of, in_covers, passed_in, scaled_in, sum_in, sum_with_in}
 use Rattle.stack_laws.specs.Stacks.{Stacks, View, view_of, AreTold}
 use Rattle.stack_laws.specs.Tidy.{AreKept}
 use Rattle.stack_laws.proofs.Laws.{misses, puts}
 use Rattle.walk_areas.specs.Walking.{Place, number_in, WalkCertificate, IsArcOver, aimed_in, IsStarted, IsStartedBy}
-use Rattle.walk_areas.specs.Walking.Place.{in_register, in_word}
 use Rattle.walk_areas.specs.Walking.IsArcOver.{register, missed, stored}
 use Rattle.walk_areas.proofs.Facts.{aimed}
 
