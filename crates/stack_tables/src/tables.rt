@@ -71,7 +71,8 @@ pub struct FixedPart {
 /// which registers are at its returns what they were then; where the words of functions that wait for a call may be; and by node, whether
 /// nothing is stored to those words from here on up to the function's return, in what is called neither. Wherever the run is, numbers in
 /// memory that are always in an interval. By node, what registers tell of others, and which are divided while others count how often.
-/// Intervals of addresses that hold all that may be loaded from or stored to. And bytes that no store changes.
+/// Intervals of addresses that hold all that may be loaded from or stored to. Bytes that no store changes. And by node, whether what is
+/// stored is taken to miss all words of the stack that are kept, and by function and number, whether a word of its stack is one of those.
 #[derive(Drop)]
 pub struct StackTable {
     pub names: Vec<[Option<Name>; 32]>,
@@ -86,4 +87,6 @@ pub struct StackTable {
     pub dwindling: Vec<Vec<Dwindling>>,
     pub areas: Vec<Arc>,
     pub fixed: Vec<FixedPart>,
+    pub doubtful: Vec<bool>,
+    pub kept: Vec<[bool; 64]>,
 }

@@ -41,6 +41,7 @@ fn blank_tables(alloc: Global, nodes: usize, functions: usize) -> Result<Tables,
     }
     tables.values.live = vec![in alloc; true; nodes]?;
     tables.stack.spared = vec![in alloc; false; nodes]?;
+    tables.stack.doubtful = vec![in alloc; false; nodes]?;
     Ok(tables)
 }
 
@@ -79,6 +80,7 @@ fn tables_of(alloc: Global, growth: Growth<'_>) -> Result<Tables, NoMemory> {
     let mut tables = Tables::none(alloc);
     tables.stack.place = kept_place(&growth);
     tables.stack.spared = spared_nodes(alloc, &growth, tables.stack.place.is_some())?;
+    tables.stack.doubtful = vec![in alloc; false; growth.live.len()]?;
     for known in &growth.known {
         tables.add_function(copy_of(&known.exit), known.begins, known.restored)?;
     }

@@ -44,6 +44,8 @@ impl Tables {
                 dwindling: Vec::new(alloc),
                 areas: Vec::new(alloc),
                 fixed: Vec::new(alloc),
+                doubtful: Vec::new(alloc),
+                kept: Vec::new(alloc),
             },
         }
     }
@@ -106,6 +108,7 @@ impl Tables {
         self.values.exits.push(exit)?;
         self.stack.begins.push(begins)?;
         self.stack.restored.push(restored)?;
+        self.stack.kept.push([true; 64])?;
         Ok(())
     }
 }
