@@ -109,6 +109,7 @@ pub fn draft_of(alloc: Global, program: &[u32; 22]) -> Result<String, Fail> {
     let inputs = DraftInputs {
         items: &[],
         most: None,
+        trusts: false,
     };
     match draft_loops(alloc, &file, &inputs, &mut Silent) {
         Ok(draft) => Ok(printed_text(alloc, &draft.pieces)?),

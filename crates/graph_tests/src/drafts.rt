@@ -15,6 +15,7 @@ fn filled_draft(alloc: Global, words: &[u32], bound: u32) -> Result<String, Fail
     let inputs = DraftInputs {
         items: &[],
         most: None,
+        trusts: false,
     };
     match draft_loops(alloc, &image, &inputs, &mut Silent) {
         Ok(draft) => Ok(filled_text(alloc, &draft.pieces, bound)?),

@@ -19,7 +19,8 @@ use Rattle.bound_laws.proofs.Laws.{all_returns, found_kept, kept_before, kept_by
 use Rattle.stack_laws.specs.Stacks.{Stacks}
 use Rattle.stack_laws.specs.Returning.{ComesBack}
 use Rattle.stack_laws.specs.Laws.{IsStackAnalysed}
-use Rattle.stack_laws.proofs.Laws.{certain_tidy, image_laid, image_told, runs_come_back}
+use Rattle.stack_laws.specs.Tidy.{IsTidy}
+use Rattle.stack_laws.proofs.Laws.{image_laid, image_told, runs_come_back}
 
 some_same : (x y : Carried) → Some x ≡ Some y → x ≡ y
 some_same x y e = let r : x ≡ y = cc in r
@@ -79,10 +80,9 @@ module _ (file : List ℕ) (image : Image) (levels : ℕ) (input : List ℕ) (co
           let k = all_returns env s l m q.0 q.1 in
           (k.0, by m k.0 k.1, subst (λ rs. length rs ≤ most_returns) (sym k.2) q.2)
 
--- the returns of every run go back, and never are too many calls open, where tables of the code show it
+-- the returns of every tidy run go back, and never are too many calls open, where tables of the code show it
 pub returns_back : (file : List ℕ) (image : Image) (levels : ℕ) (input : List ℕ) (code : Code) (v : Values) (w : Stacks) → image_of file ≡ Ok image → All (λ x. x < 256) file → All (λ x. x < 256) input →
-    IsStackAnalysed image code v w → ComesBack (text_of image) (text_graph (text_of image) code) v w → (n : ℕ) → (rs : List ℕ) × (returns_so (run_of image levels input n).steps ≡ Some rs) × (length rs ≤ most_returns)
+    IsStackAnalysed image code v w → ComesBack (text_of image) (text_graph (text_of image) code) v w → (n : ℕ) → IsTidy v w (setting_of image levels input) (start_of image levels) n → (rs : List ℕ) × (returns_so (run_of image levels input n).steps ≡ Some rs) × (length rs ≤ most_returns)
 unfolding run_of
-returns_back file image levels input code v w read small_file small_input ana comes n =
-    runs_come_back (text_of image) (setting_of image levels input) (start_of image levels) code v w (image_starts file image levels input read) ana.reached ana.invariant comes (image_laid image code v w ana) (image_told image levels code v w ana) (loaded_small file image read small_file) small_input n
-    (certain_tidy v w (setting_of image levels input) (start_of image levels) ana.certain n)
+returns_back file image levels input code v w read small_file small_input ana comes n tidy =
+    runs_come_back (text_of image) (setting_of image levels input) (start_of image levels) code v w (image_starts file image levels input read) ana.reached ana.invariant comes (image_laid image code v w ana) (image_told image levels code v w ana) (loaded_small file image read small_file) small_input n tidy

@@ -22,5 +22,6 @@ numbers_more k n x xs are low = record {
 }
 
 -- a piece before all others begins the file
-pub first_begins : (most : Option ℕ) (returns : Bool) (first : Piece) (pieces : List Piece) → printed_piece first ≡ first_lines most returns → HasFirstLines most returns (printed (insert pieces 0 first))
-first_begins most returns first pieces e = (printed pieces, ap (λ (text : List ℕ). text ++ printed pieces) e)
+pub first_begins : (most : Option ℕ) (returns : Bool) (trusted : ℕ) (first : Piece) (pieces : List Piece) → printed_piece first ≡ first_lines most returns trusted →
+    HasFirstLines most returns trusted (printed (insert pieces 0 first))
+first_begins most returns trusted first pieces e = (printed pieces, ap (λ (text : List ℕ). text ++ printed pieces) e)

@@ -24,6 +24,7 @@ use Rattle.loop_drafts.specs.Countable.{AreCounted, AreCountable}
 use Rattle.loop_drafts.proofs.Counts.{all_counted, none_open}
 use Rattle.loop_drafts.proofs.Keeping.{greater_kept, fewer_kept, returns_kept, returns_back}
 use Rattle.loop_drafts.proofs.Turning.{shown_too}
+use Rattle.loop_drafts.proofs.Trusting.{trust_before}
 use Rattle.loop_drafts.proofs.SameCounts.{counts_free}
 
 ok_same : {A B : Type 0} (o : Result A B) (x y : A) → o ≡ Ok x → o ≡ Ok y → x ≡ y
@@ -48,14 +49,14 @@ least_too original code v w notes drafted k trips same found = ⊎_elim
     (λ (shown : IsLeastShown original code v w drafted). inl (shown notes k same)) found
 
 pub bounds_kept : DraftedBoundsAreKept
-bounds_kept file most draft original drafted notes levels input bounds trips n small_file is read noted finished small_input within written kept = ⊎_elim
+bounds_kept file most draft original drafted notes levels input bounds trips n small_file is read noted finished small_input within tidy written kept = ⊎_elim
     (λ (none : AreNoneFound drafted draft.returns). let opened = λ (k : ℕ) (kl : k < length notes). written k kl (none.open_loops k no_note (there k kl)) in
     fewer_kept file original levels input d.graph.code (noted_loops notes) read d.graph_is.reached trips n (λ k kl. (opened k kl).1)
     (greater_kept file original levels input d.graph.code (with_trips (noted_loops notes) trips) read d.graph_is.reached bounds n (λ k kl. (opened k kl).0) kept))
-    (λ (found : AreBoundsShown original most drafted draft.returns). lower_kept file original levels input found.code found.values found.stacks (noted_loops notes) trips read small_file small_input found.analysed
-    (λ k kl. least found k kl) n
-    (shown_kept file original levels input found.code found.values found.stacks most (with_trips (noted_loops notes) trips) bounds read small_file small_input within found.analysed (λ k kl. which found k kl) n kept))
-    (subst (λ (ns : List LoopNote). AreBoundsFound original most ns draft.returns) (ok_same (read_loops original (filled_most draft.pieces.items)) d.pieces.notes drafted d.pieces.file.read noted) d.pieces.bounds)
+    (λ (found : AreBoundsShown original most drafted draft.returns draft.trust). lower_kept file original levels input found.code found.values found.stacks (noted_loops notes) trips read small_file small_input found.analysed
+    (λ k kl. least found k kl) n (tidy found.code found.values found.stacks found.analysed.reached found.trusts)
+    (shown_kept file original levels input found.code found.values found.stacks most (with_trips (noted_loops notes) trips) bounds read small_file small_input within found.analysed (λ k kl. which found k kl) n (tidy found.code found.values found.stacks found.analysed.reached found.trusts) kept))
+    (subst (λ (ns : List LoopNote). AreBoundsFound original most ns draft.returns draft.trust) (ok_same (read_loops original (filled_most draft.pieces.items)) d.pieces.notes drafted d.pieces.file.read noted) d.pieces.bounds)
   where
     d : IsDraftOf original most draft
     d = draft_of file most draft original is read
@@ -63,7 +64,7 @@ bounds_kept file most draft original drafted notes levels input bounds trips n s
     there : (k : ℕ) → k < length notes → k < length drafted
     there k kl = subst (λ (size : ℕ). k < size) finished.size kl
 
-    which : (found : AreBoundsShown original most drafted draft.returns) (k : ℕ) → k < length notes →
+    which : (found : AreBoundsShown original most drafted draft.returns draft.trust) (k : ℕ) → k < length notes →
         IsShown (text_of original) (text_graph (text_of original) found.code) found.values found.stacks most (with_trips (noted_loops notes) trips) k ⊎ (bounds k ≤ (note_at notes k).bound)
     which found k kl = ⊎_elim
         (λ (opened : IsOpen (note_at drafted k)). inr (written k kl opened).0)
@@ -74,7 +75,7 @@ bounds_kept file most draft original drafted notes levels input bounds trips n s
         (found.shown k no_note (there k kl)))
         (finished.same k (there k kl))
 
-    least : (found : AreBoundsShown original most drafted draft.returns) (k : ℕ) → k < length notes →
+    least : (found : AreBoundsShown original most drafted draft.returns draft.trust) (k : ℕ) → k < length notes →
         IsLowerShown (text_of original) (text_graph (text_of original) found.code) found.values found.stacks (noted_loops notes) k ⊎ ((note_at notes k).at_least ≤ trips k)
     least found k kl = ⊎_elim
         (λ (opened : IsOpen (note_at drafted k)). inr (written k kl opened).1)
@@ -82,16 +83,16 @@ bounds_kept file most draft original drafted notes levels input bounds trips n s
         (finished.same k (there k kl))
 
 pub files_need_returns : DraftedFilesNeedReturns
-files_need_returns file most draft original levels input n small_file small_input within is read unbounded all returns = (
+files_need_returns file most draft original levels input n small_file small_input within is read unbounded all tidy returns = (
   notes,
   subst (λ (text : List ℕ). read_loops original text ≡ Ok notes) (sym (none_open most_turns draft.pieces.items (sym d.unbounded ∙ unbounded))) d.pieces.file.read,
   ⊎_elim
       (λ (none : AreNoneFound notes draft.returns). returns_kept file original levels input d.graph.code (noted_loops notes) read d.graph_is.reached n
       (λ k kl. absurd (not_open (note_at notes k) (bounded k no_note kl) (none.open_loops k no_note kl))) returns)
-      (λ (found : AreBoundsShown original most notes draft.returns). lower_kept file original levels input found.code found.values found.stacks (noted_loops notes) none_asked read small_file small_input found.analysed
-      (λ k kl. least_too original found.code found.values found.stacks notes (note_at notes k) k 0 refl (found.least k no_note kl)) n
+      (λ (found : AreBoundsShown original most notes draft.returns draft.trust). lower_kept file original levels input found.code found.values found.stacks (noted_loops notes) none_asked read small_file small_input found.analysed
+      (λ k kl. least_too original found.code found.values found.stacks notes (note_at notes k) k 0 refl (found.least k no_note kl)) n (tidy found.code found.values found.stacks found.analysed.reached found.trusts)
       (shown_by_returns file original levels input found.code found.values found.stacks most (with_trips (noted_loops notes) none_asked) read small_file small_input within found.analysed
-      (λ k kl. (shown found k kl, refl)) n returns)) d.pieces.bounds,
+      (λ k kl. (shown found k kl, refl)) n (tidy found.code found.values found.stacks found.analysed.reached found.trusts) returns)) d.pieces.bounds,
 )
   where
     d : IsDraftOf original most draft
@@ -106,7 +107,7 @@ files_need_returns file most draft original levels input n small_file small_inpu
     bounded : All (λ note. is_bounded note ≡ true) notes
     bounded = all_counted is_bounded notes (sym d.pieces.proved_are ∙ all ∙ d.pieces.loops_are)
 
-    shown : (found : AreBoundsShown original most notes draft.returns) (k : ℕ) → k < length notes →
+    shown : (found : AreBoundsShown original most notes draft.returns draft.trust) (k : ℕ) → k < length notes →
         IsShown (text_of original) (text_graph (text_of original) found.code) found.values found.stacks most (with_trips (noted_loops notes) none_asked) k
     shown found k kl = ⊎_elim
         (λ (opened : IsOpen (note_at notes k)). absurd (not_open (note_at notes k) (bounded k no_note kl) opened))
@@ -114,9 +115,9 @@ files_need_returns file most draft original levels input n small_file small_inpu
         shown_too (text_of original) (text_graph (text_of original) found.code) found.values found.stacks most (noted_loops notes) none_asked k (s notes k refl)) (found.shown k no_note kl)
 
 pub returns_go_back : DraftedReturnsGoBack
-returns_go_back file most draft original levels input n small_file small_input is read proved = ⊎_elim
+returns_go_back file most draft original levels input n small_file small_input is read proved tidy = ⊎_elim
     (λ (none : AreNoneFound d.pieces.notes draft.returns). let unproved : draft.returns ≡ false = none.unproved in absurd (let bad : ⊥ = cc in bad))
-    (λ (found : AreBoundsShown original most d.pieces.notes draft.returns). returns_back file original levels input found.code found.values found.stacks read small_file small_input found.analysed (found.comes_back proved) n)
+    (λ (found : AreBoundsShown original most d.pieces.notes draft.returns draft.trust). returns_back file original levels input found.code found.values found.stacks read small_file small_input found.analysed (found.comes_back proved) n (tidy found.code found.values found.stacks found.analysed.reached found.trusts))
     d.pieces.bounds
   where
     d : IsDraftOf original most draft
@@ -126,8 +127,9 @@ pub files_kept : DraftedFilesAreKept
 files_kept file most draft original small_file is read unbounded all proved = (
   notes,
   printed_read,
-  λ levels input n small_input within.
-      let law = files_need_returns file most draft original levels input n small_file small_input within is read unbounded all (λ m le. returns_go_back file most draft original levels input m small_file small_input is read proved) in
+  λ levels input n small_input within tidy.
+      let law = files_need_returns file most draft original levels input n small_file small_input within is read unbounded all tidy
+      (λ m le. returns_go_back file most draft original levels input m small_file small_input is read proved (trust_before original draft.trust levels input m n le tidy)) in
       subst (λ (ns : List LoopNote). IsKeptUpTo original levels input (noted_loops ns) n) (ok_same (read_loops original (printed draft.pieces.items)) law.0 notes law.1 printed_read) law.2,
 )
   where

@@ -13,6 +13,8 @@ use Rattle.turn_laws.specs.Relating.{IsShown}
 use Rattle.stack_laws.specs.Returning.{ComesBack}
 use Rattle.stack_laws.specs.Laws.{IsStackAnalysed}
 use Rattle.lower_bounds.specs.LowerBounds.{IsLowerShown}
+use Rattle.loop_drafts.specs.declared.trusting.Trust.{Trust}
+use Rattle.loop_drafts.specs.Trusting.{IsTrustOf}
 
 -- the greatest bound that a loop file may have
 abbrev pub most_turns : ℕ
@@ -62,13 +64,14 @@ AreReturnsFound image code v w returns = returns ≡ true → ComesBack (text_of
 
 -- ---- what is found
 
--- of each note and of returns, by one pair of tables that the code confirms: bounds for inputs of so many bytes at most, where that is told, and the
--- least turns and returns for each input
-pub record AreBoundsShown (image : Image) (most : Option ℕ) (notes : List LoopNote) (returns : Bool) : Type 0 where
+-- of each note and of returns, by one pair of tables that the code confirms, with what they trust: bounds for inputs of so many bytes at most, where that
+-- is told, and the least turns and returns for each input
+pub record AreBoundsShown (image : Image) (most : Option ℕ) (notes : List LoopNote) (returns : Bool) (trust : Trust) : Type 0 where
   pub code : Code
   pub values : Values
   pub stacks : Stacks
   pub analysed : IsStackAnalysed image code values stacks
+  pub trusts : IsTrustOf code trust values stacks
   pub shown : All (IsBoundFound image code values stacks most) notes
   pub least : All (IsLeastFound image code values stacks) notes
   pub comes_back : AreReturnsFound image code values stacks returns
@@ -79,5 +82,5 @@ pub record AreNoneFound (notes : List LoopNote) (returns : Bool) : Type 0 where
   pub least : All NeedNotTurn notes
   pub unproved : returns ≡ false
 
-abbrev pub AreBoundsFound : Image → Option ℕ → List LoopNote → Bool → Type 0
-AreBoundsFound image most notes returns = AreNoneFound notes returns ⊎ AreBoundsShown image most notes returns
+abbrev pub AreBoundsFound : Image → Option ℕ → List LoopNote → Bool → Trust → Type 0
+AreBoundsFound image most notes returns trust = AreNoneFound notes returns ⊎ AreBoundsShown image most notes returns trust

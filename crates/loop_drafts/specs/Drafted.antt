@@ -15,6 +15,8 @@ use Rattle.loop_file.specs.Loops.{read_loops}
 use Rattle.loop_forest.specs.Tree.{LoopView, IsTreeOf, IsTreeBuilt}
 use Rattle.loop_drafts.specs.declared.drafted.Piece.{Piece}
 use Rattle.loop_drafts.specs.declared.drafted.LoopDraft.{LoopDraft}
+use Rattle.loop_drafts.specs.declared.trusting.Trust.{Trust}
+use Rattle.loop_drafts.specs.Trusting.{trusted_stores}
 use Rattle.loop_drafts.specs.Countable.{AreCountable}
 use Rattle.loop_drafts.specs.Bounds.{most_turns, is_bounded, AreBoundsFound}
 use Rattle.loop_drafts.specs.Pieces.{HasFirstLines, filled, printed}
@@ -46,13 +48,13 @@ pub record AreReadAs (original : Image) (v : FlowGraph) (pieces : List Piece) (n
   -- what is counted is what a rewritten image takes
   pub countable : AreCountable v notes aside
 
--- The pieces of a loop file of the image: how many loops it has, how many of them with a bound that is shown by the code, and whether the code shows
--- that returns go back.
+-- The pieces of a loop file of the image: how many loops it has, how many of them with a bound that is shown by the code, whether the code shows
+-- that returns go back, and what is trusted for both.
 pub record AreTakenPieces (original : Image) (most : Option ℕ) (v : FlowGraph) (pieces : List Piece) (loops proved : ℕ) (returns : Bool)
-    (aside : ℕ) : Type 0 where
+    (trust : Trust) (aside : ℕ) : Type 0 where
   pub notes : List LoopNote
   pub file : AreReadAs original v pieces notes aside
-  pub bounds : AreBoundsFound original most notes returns
+  pub bounds : AreBoundsFound original most notes returns trust
   pub loops_are : loops ≡ length notes
   pub proved_are : proved ≡ count_by is_bounded notes
 
@@ -60,9 +62,10 @@ pub record AreTakenPieces (original : Image) (most : Option ℕ) (v : FlowGraph)
 pub record IsDraftOf (original : Image) (most : Option ℕ) (draft : LoopDraft) : Type 0 where
   pub graph : FlowGraph
   pub graph_is : IsGraphOf (text_of original) graph
-  pub pieces : AreTakenPieces original most graph draft.pieces.items draft.loops draft.proved draft.returns draft.aside
-  -- the file says whether returns are proved, and for inputs of how many bytes its bounds are, where that is told
-  pub begins : HasFirstLines most draft.returns (printed draft.pieces.items)
+  pub pieces : AreTakenPieces original most graph draft.pieces.items draft.loops draft.proved draft.returns draft.trust draft.aside
+  -- the file says whether returns are proved, for inputs of how many bytes its bounds are, where that is told, and how many stores are trusted, where
+  -- some are
+  pub begins : HasFirstLines most draft.returns (trusted_stores draft.trust) (printed draft.pieces.items)
   -- how many loops have no bound
   pub unbounded : draft.unbounded ≡ count_by (λ piece. piece.is_open) draft.pieces.items
   pub aside_fits : draft.aside < 2 ^ 64

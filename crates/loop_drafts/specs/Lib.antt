@@ -1,5 +1,6 @@
 pub mod Numbered
 pub mod Spans
+pub mod Trusting
 pub mod Pieces
 pub mod Bounds
 pub mod Sought

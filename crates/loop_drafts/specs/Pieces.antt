@@ -1,5 +1,5 @@
 -- A drafted loop file in pieces, and the file with the bounds that are missing filled in.
-use Rattle.std.specs.Prelude.{codes, ◌≡◌, ℕ, Bool, true, false, List, [], ◌∷◌, ◌++◌, flat_map, string_bytes, if◌then◌else◌, Option, Some, None}
+use Rattle.std.specs.Prelude.{codes, ◌≡◌, ℕ, zero, suc, Bool, true, false, List, [], ◌∷◌, ◌++◌, flat_map, string_bytes, if◌then◌else◌, Option, Some, None}
 use Rattle.std.specs.Fmt.{decimal}
 use Rattle.loop_drafts.specs.declared.drafted.Piece.{Piece}
 
@@ -21,7 +21,8 @@ printed pieces = flat_map printed_piece pieces
 abbrev pub filled : ℕ → List Piece → List ℕ
 filled bound pieces = flat_map (filled_piece bound) pieces
 
--- ---- the first lines: whether returns are proved to go back, and how many bytes an input has at most, where that is told
+-- ---- the first lines: whether returns are proved to go back, how many bytes an input has at most, where that is told, and how many stores are trusted,
+-- where some are
 
 abbrev pub returns_line : Bool → List ℕ
 returns_line true = codes "# returns: proved\n"
@@ -31,8 +32,12 @@ abbrev pub inputs_line : Option ℕ → List ℕ
 inputs_line None = []
 inputs_line (Some most) = codes "# inputs: at most " ++ decimal most ++ codes " bytes\n"
 
-abbrev pub first_lines : Option ℕ → Bool → List ℕ
-first_lines most returns = returns_line returns ++ inputs_line most
+abbrev pub trusted_line : ℕ → List ℕ
+trusted_line zero = []
+trusted_line (suc n) = codes "# trusted stores: " ++ decimal (suc n) ++ 10 ∷ []
 
-abbrev pub HasFirstLines : Option ℕ → Bool → List ℕ → Type 0
-HasFirstLines most returns file = (rest : List ℕ) × (file ≡ first_lines most returns ++ rest)
+abbrev pub first_lines : Option ℕ → Bool → (trusted : ℕ) → List ℕ
+first_lines most returns trusted = returns_line returns ++ inputs_line most ++ trusted_line trusted
+
+abbrev pub HasFirstLines : Option ℕ → Bool → (trusted : ℕ) → List ℕ → Type 0
+HasFirstLines most returns trusted file = (rest : List ℕ) × (file ≡ first_lines most returns trusted ++ rest)

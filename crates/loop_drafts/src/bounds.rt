@@ -6,14 +6,16 @@ ghost use Rattle.code_text.specs.Text.{text_of};
 ghost use Rattle.flow_graph.specs.FlowGraph.{IsGraphOf};
 ghost use Rattle.stack_tables.specs.Tables.{IsStackClaim};
 ghost use Rattle.loop_drafts.specs.Bounds.{AreBoundsFound, AreNoneFound, IsOpen, NeedNotTurn};
-ghost use Rattle.loop_drafts.specs.Sought.{AreFoundBy, AreLeastFoundBy, AreReturnsFoundBy, IsFoundBy, IsLeastFoundBy};
+ghost use Rattle.loop_drafts.specs.Trusting.{AreNoneTrusted, IsAllowed, trust_of};
+ghost use Rattle.loop_drafts.specs.Sought.{AreFoundBy, AreLeastFoundBy, AreReturnsFoundBy, IsFoundBy, IsLeastFoundBy, trust_in};
 
 use crate::counting::dear_loops;
 use crate::draft::{Counter, Draft, Known, Place, Reason, Way};
 use crate::exact::is_exact;
 use crate::least::with_least;
 use crate::left::{counts_input, reads_input};
-use crate::noted::{GREATEST_BOUND, bounded_by};
+use crate::noted::{GREATEST_BOUND, bounded_by, count_bounded};
+use crate::trusting::Trust;
 use elf_image::ImageView;
 use flow_graph::CodeGraph;
 use loop_counters::{LoopProgram, find_certificate, heights_of, loops_within};
@@ -23,7 +25,7 @@ use loop_tree::build_loops;
 use scale_base::{NoMemory, Stop};
 use shown_bounds::{StackCertificate, StackCounter, comes_back, is_shown};
 use stack_checks::is_stack_analysed;
-use stack_tables::{StackClaim, is_stack_sized};
+use stack_tables::{StackClaim, StackTable, is_stack_sized};
 use std::alloc::Global;
 use turn_checks::TurnKind;
 use value_analysis::{Tables, analyse_loops};
@@ -36,34 +38,69 @@ const MOST_WORK: u64 = 400_000_000;
 /// Such a bound of a walk through memory is told, and left to whoever knows a lower one: it is the size of the stack, and no deadline is for that.
 const FAR: u32 = 16_384;
 
-/// What is known of each loop, the note that it is to have in the file, and whether returns go back.
+/// What is known of each loop, the note that it is to have in the file, whether returns go back, and what is trusted for that and for bounds.
 #[derive(Drop)]
 pub struct Bounds {
     pub known: Vec<Known>,
     pub notes: Vec<LoopNote>,
     pub returns: bool,
+    pub trust: Trust,
 }
 
 impl Bounds {
     fn new(alloc: Global, returns: bool) -> Bounds
         ensures notes { result.notes.items ≡ [] }
         ensures returns { result.returns ≡ returns }
+        ensures trust { AreNoneTrusted result.trust }
     {
         Bounds {
             known: Vec::new(alloc),
             notes: Vec::new(alloc),
             returns,
+            trust: Trust::none(alloc),
         }
     }
 
     fn push(&mut self, sought: Sought) -> Result<(), NoMemory>
         ensures notes { OnOk result (self.new.notes.items ≡ self.old.notes.items ++ sought.note ∷ []) }
         ensures returns { OnOk result (self.new.returns ≡ self.old.returns) }
+        ensures trust { OnOk result (self.new.trust ≡ self.old.trust) }
     {
         let Sought { known, note } = sought;
         self.known.push(known)?;
         self.notes.push(note)?;
         Ok(())
+    }
+
+    // The same, where tables trust what these do.
+    fn trusting(self, stack: StackTable) -> Bounds
+        ensures notes { result.notes ≡ self.notes }
+        ensures returns { result.returns ≡ self.returns }
+        ensures trust { result.trust ≡ trust_of stack }
+    {
+        let Bounds {
+            known,
+            notes,
+            returns,
+            trust: _,
+        } = self;
+        Bounds {
+            known,
+            notes,
+            returns,
+            trust: Trust::of(stack),
+        }
+    }
+
+    // Whether each loop has a bound and returns are proved.
+    fn is_whole(&self) -> bool {
+        self.returns && count_bounded(&self.notes) == self.notes.len()
+    }
+
+    // Whether more is proved.
+    fn shows_more(&self, other: &Bounds) -> bool {
+        let (one, two) = (count_bounded(&self.notes), count_bounded(&other.notes));
+        one > two || (one == two && self.returns && !other.returns)
     }
 }
 
@@ -323,6 +360,7 @@ fn seek_all(
 /// Each loop without a bound.
 pub fn open_all(alloc: Global, notes: &LoopNotes, reason: Reason) -> Result<Bounds, NoMemory>
     ensures none { IfOk result (λ b. AreNoneFound b.notes.items b.returns) }
+    ensures trust { IfOk result (λ b. AreNoneTrusted b.trust) }
 {
     let mut bounds = Bounds::new(alloc, false);
     for k in 0..notes.count() {
@@ -331,7 +369,7 @@ pub fn open_all(alloc: Global, notes: &LoopNotes, reason: Reason) -> Result<Boun
     Ok(bounds)
 }
 
-// The bounds of loops that are taken, by tables that have a row for each node and each function.
+// The bounds of loops that are taken, by tables that have a row for each node and each function. What these trust isn't told.
 fn bounds_by(
     alloc: Global,
     claim: &StackClaim<'_>,
@@ -339,7 +377,7 @@ fn bounds_by(
     notes: &LoopNotes,
 ) -> Result<Bounds, NoMemory>
     requires { IsStackClaim claim.now }
-    ensures found { IfOk result (λ b. AreBoundsFound claim.now.view.now sources.now.most b.notes.items b.returns) }
+    ensures found { IfOk result (λ b. AreBoundsFound claim.now.view.now sources.now.most b.notes.items b.returns (trust_in claim.now)) }
 {
     if !is_stack_analysed(claim) {
         return open_all(alloc, notes, Reason::NotAnalysed);
@@ -361,26 +399,56 @@ fn loops_to_count(
     }
 }
 
-/// The notes of the loops whose bounds are looked for, whether some of them may be counted, and how many bytes an input has at most, where that is told.
+// A program whose loops are taken.
+#[derive(Clone, Copy)]
+struct Taken<'a> {
+    view: &'a ImageView<'a>,
+    graph: &'a CodeGraph,
+    tree: &'a LoopTree,
+}
+
+/// The notes of the loops whose bounds are looked for, whether some of them may be counted, how many bytes an input has at most, where that is told, and whether
+/// stores may be trusted.
 #[derive(Clone, Copy)]
 pub struct Wanted<'a> {
     pub notes: &'a LoopNotes,
     pub counts: bool,
     pub most: Option<u32>,
+    pub trusts: bool,
 }
 
-// The bounds of loops that are taken.
-fn bounds_of(
+// What is found, where no more is trusted than may be. Nothing is proved of what is proposed, so that it is looked at.
+fn if_allowed(
     alloc: Global,
     view: &ImageView<'_>,
-    graph: &CodeGraph,
-    tree: &LoopTree,
     wanted: Wanted<'_>,
+    bounds: Bounds,
+    trusts: bool,
 ) -> Result<Bounds, NoMemory>
-    requires { IsGraphOf (text_of view.now) graph.now }
-    ensures found { IfOk result (λ b. AreBoundsFound view.now wanted.entry.most b.notes.items b.returns) }
+    requires { AreBoundsFound view.now wanted.most bounds.notes.items bounds.returns bounds.trust }
+    ensures found { IfOk result (λ b. AreBoundsFound view.now wanted.entry.most b.notes.items b.returns b.trust) }
+    ensures allowed { IfOk result (λ b. IsAllowed trusts b.trust) }
 {
-    let tables = analyse_loops(alloc, view, graph, tree)?;
+    if trusts || bounds.trust.count() == 0 {
+        Ok(bounds)
+    } else {
+        open_all(alloc, wanted.notes, Reason::NotAnalysed)
+    }
+}
+
+// The bounds of loops that are taken, by tables that trust stores or don't.
+fn bounds_in(
+    alloc: Global,
+    program: Taken<'_>,
+    wanted: Wanted<'_>,
+    trusts: bool,
+) -> Result<Bounds, NoMemory>
+    requires { IsGraphOf (text_of program.view.now) program.graph.now }
+    ensures found { IfOk result (λ b. AreBoundsFound program.entry.view.now wanted.entry.most b.notes.items b.returns b.trust) }
+    ensures allowed { IfOk result (λ b. IsAllowed trusts b.trust) }
+{
+    let Taken { view, graph, tree } = program;
+    let tables = analyse_loops(alloc, view, graph, tree, trusts)?;
     if !is_sized(graph, &tables.values) || !is_stack_sized(graph, &tables.stack) {
         return open_all(alloc, wanted.notes, Reason::NotAnalysed);
     }
@@ -398,11 +466,30 @@ fn bounds_of(
         dear: &dear,
         most: wanted.most,
     };
-    bounds_by(alloc, &claim, &sources, wanted.notes)
+    let bounds = bounds_by(alloc, &claim, &sources, wanted.notes)?;
+    if_allowed(alloc, view, wanted, bounds.trusting(tables.stack), trusts)
 }
 
-/// The bounds of noted loops that the code shows, for inputs of so many bytes at most, where that is told, and whether returns go back; and which loops are to be
-/// counted, where some may be. Where the loops aren't taken, nothing is looked for.
+// The bounds of loops that are taken: by tables that trust no store, or by others, where these may be, and show more.
+fn bounds_of(alloc: Global, program: Taken<'_>, wanted: Wanted<'_>) -> Result<Bounds, NoMemory>
+    requires { IsGraphOf (text_of program.view.now) program.graph.now }
+    ensures found { IfOk result (λ b. AreBoundsFound program.entry.view.now wanted.entry.most b.notes.items b.returns b.trust) }
+    ensures allowed { IfOk result (λ b. IsAllowed wanted.entry.trusts b.trust) }
+{
+    let plain = bounds_in(alloc, program, wanted, false)?;
+    if !wanted.trusts || plain.is_whole() {
+        return Ok(plain);
+    }
+    let trusting = bounds_in(alloc, program, wanted, true)?;
+    if trusting.shows_more(&plain) {
+        Ok(trusting)
+    } else {
+        Ok(plain)
+    }
+}
+
+/// The bounds of noted loops that the code shows, for inputs of so many bytes at most, where that is told, and whether returns go back, with what is trusted for
+/// both; and which loops are to be counted, where some may be. Where the loops aren't taken, nothing is looked for.
 pub fn find_bounds(
     alloc: Global,
     view: &ImageView<'_>,
@@ -410,10 +497,18 @@ pub fn find_bounds(
     wanted: Wanted<'_>,
 ) -> Result<Bounds, NoMemory>
     requires { IsGraphOf (text_of view.now) graph.now }
-    ensures found { IfOk result (λ b. AreBoundsFound view.now wanted.entry.most b.notes.items b.returns) }
+    ensures found { IfOk result (λ b. AreBoundsFound view.now wanted.entry.most b.notes.items b.returns b.trust) }
+    ensures allowed { IfOk result (λ b. IsAllowed wanted.entry.trusts b.trust) }
 {
     match build_loops(alloc, graph, wanted.notes) {
-        Ok(tree) => bounds_of(alloc, view, graph, &tree, wanted),
+        Ok(tree) => {
+            let program = Taken {
+                view,
+                graph,
+                tree: &tree,
+            };
+            bounds_of(alloc, program, wanted)
+        }
         Err(Stop::Refused(_)) => open_all(alloc, wanted.notes, Reason::EnteredAside),
         Err(Stop::Memory) => Err(NoMemory),
     }

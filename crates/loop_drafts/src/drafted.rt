@@ -3,6 +3,7 @@
 ghost use Rattle.std.specs.Prelude.{◌≡◌, ◌++◌, IfOk, OnOk, string_bytes, count_by};
 ghost use Rattle.loop_drafts.specs.Pieces.{bound_line, filled_piece, printed, filled};
 
+use crate::trusting::Trust;
 use scale_base::NoMemory;
 use std::alloc::{AllocError, Global};
 use std::fmt::Write;
@@ -16,7 +17,8 @@ pub struct Piece {
 }
 
 /// A drafted loop file: its pieces, how many loops it has, how many of them with a bound that the code shows and how many without one, how many parts of the
-/// code turn that are no loops, since they are entered at several places, and whether the code shows that each return goes back to its call.
+/// code turn that are no loops, since they are entered at several places, whether the code shows that each return goes back to its call, and what is trusted
+/// for that and for bounds.
 #[derive(Drop)]
 pub struct LoopDraft {
     pub pieces: Vec<Piece>,
@@ -25,6 +27,7 @@ pub struct LoopDraft {
     pub unbounded: usize,
     pub aside: usize,
     pub returns: bool,
+    pub trust: Trust,
 }
 
 /// How many pieces are open.

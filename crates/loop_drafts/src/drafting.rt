@@ -1,6 +1,6 @@
 //! The draft of an image's loop file, and whether its loops are taken.
 
-ghost use Rattle.std.specs.Prelude.{◌≡◌, ℕ, codes, vec_len, Bool, true, IfOk, None};
+ghost use Rattle.std.specs.Prelude.{◌≡◌, ℕ, codes, vec_len, Bool, true, IfOk, IfSome, None};
 ghost use Rattle.scale_base.specs.Answer.{AnswersBy, Refuses};
 ghost use Rattle.scale_base.specs.declared.refusal.Refusal.TheVariants.{TooLarge};
 ghost use Rattle.code_text.specs.Text.{text_of};
@@ -9,6 +9,7 @@ ghost use Rattle.loop_forest.specs.Tree.{IsLoopTree};
 ghost use Rattle.loop_drafts.specs.Bounds.{AreBoundsFound};
 ghost use Rattle.loop_drafts.specs.Pieces.{HasFirstLines, printed};
 ghost use Rattle.loop_drafts.specs.Countable.{AreCountable, IsCountable};
+ghost use Rattle.loop_drafts.specs.Trusting.{IsAllowed, trusted_stores};
 ghost use Rattle.loop_drafts.specs.Drafted.{AreTried, AreNotesTaken, ArePiecesRead, ArePiecesChecked, IsDraftTried, IsGraphDrafted, IsDraftedImage, IsDrafted};
 
 use crate::bounds::{Bounds, Wanted, find_bounds, open_all};
@@ -19,6 +20,8 @@ use crate::noted::{GREATEST_BOUND, are_wanted, count_bounded};
 use crate::remarks::{Remarks, turns_of};
 use crate::search::find_loops;
 use crate::texts::{FirstLines, pieces_of};
+use crate::trusted::Trusted;
+use crate::trusting::Trust;
 use code_graph::build_graph;
 use code_names::{Names, names_of};
 use debug_lines::{Lines, lines_of};
@@ -123,15 +126,17 @@ fn read_pieces(alloc: Global, view: &ImageView<'_>, pieces: &[Piece]) -> Result<
     read_loops(alloc, bytes, view)
 }
 
-/// The inputs of a program: some that it is run on, of which comments tell, and how many bytes an input has at most, where that is told.
+/// What is told of a program: some of its inputs, on which it is run, of which comments tell; how many bytes an input has at most, where that is told; and
+/// whether stores of which nothing is known are trusted to change no word of the stack that is kept, where that shows more.
 #[derive(Clone, Copy)]
 pub struct DraftInputs<'a> {
     pub items: &'a [Vec<u8>],
     pub most: Option<u32>,
+    pub trusts: bool,
 }
 
-/// An image with its graph, the loops that are found in it, the names and the source lines of its places, how the loops turned in runs, and how many bytes an input
-/// has at most, where that is told.
+/// An image with its graph, the loops that are found in it, the names and the source lines of its places, how the loops turned in runs, how many bytes an input
+/// has at most, where that is told, and whether stores are trusted.
 #[derive(Drop)]
 struct Sketch<'a> {
     view: &'a ImageView<'a>,
@@ -141,6 +146,7 @@ struct Sketch<'a> {
     lines: Lines<'a>,
     turns: Turns,
     most: Option<u32>,
+    trusts: bool,
 }
 
 // What the comments tell.
@@ -177,7 +183,7 @@ fn check_pieces(
 
 // The pieces with the bounds that are found. Where the file would be long, its comments tell neither source lines nor turns.
 fn pieces_with(alloc: Global, sketch: &Sketch<'_>, bounds: &Bounds) -> Result<Vec<Piece>, NoMemory>
-    ensures { IfOk result (λ pieces. HasFirstLines sketch.now.most bounds.now.returns (printed pieces.items)) }
+    ensures { IfOk result (λ pieces. HasFirstLines sketch.now.most bounds.now.returns (trusted_stores bounds.now.trust) (printed pieces.items)) }
 {
     let remarks = remarks_of(sketch);
     let found = &sketch.found;
@@ -185,6 +191,10 @@ fn pieces_with(alloc: Global, sketch: &Sketch<'_>, bounds: &Bounds) -> Result<Ve
     let first = FirstLines {
         returns,
         most: sketch.most,
+        trusted: Trusted {
+            graph: sketch.graph,
+            trust: &bounds.trust,
+        },
     };
     let pieces = pieces_of(alloc, &remarks, found, &bounds.known, first)?;
     if byte_count(&pieces) <= MOST_REMARKED {
@@ -197,13 +207,14 @@ fn pieces_with(alloc: Global, sketch: &Sketch<'_>, bounds: &Bounds) -> Result<Ve
 fn draft_bounds(
     alloc: Global,
     sketch: &Sketch<'_>,
-    bounds: &Bounds,
+    bounds: Bounds,
 ) -> Result<Option<LoopDraft>, Stop>
     requires graph { IsGraphOf (text_of sketch.now.view.now) sketch.now.graph.now }
-    requires found { AreBoundsFound sketch.now.view.now sketch.now.most bounds.now.notes.items bounds.now.returns }
-    ensures { AnswersBy (λ draft. draft) result (IsDraftTried sketch.now.view.now sketch.now.most sketch.now.graph.now) }
+    requires found { AreBoundsFound sketch.now.view.now sketch.now.most bounds.notes.items bounds.returns bounds.trust }
+    ensures drafted { AnswersBy (λ draft. draft) result (IsDraftTried sketch.now.view.now sketch.now.most sketch.now.graph.now) }
+    ensures trust { IfOk result (λ draft. IfSome draft (λ draft. draft.trust ≡ bounds.trust)) }
 {
-    let pieces = pieces_with(alloc, sketch, bounds)?;
+    let pieces = pieces_with(alloc, sketch, &bounds)?;
     if !check_pieces(alloc, sketch, &pieces, &bounds.notes)? {
         return Ok(None);
     }
@@ -215,16 +226,18 @@ fn draft_bounds(
         unbounded,
         aside: sketch.found.aside.len(),
         returns: bounds.returns,
+        trust: bounds.trust,
     }))
 }
 
 // The draft without bounds. Nothing is proved of the texts, so that here too it is looked at whether the file has the notes that are wanted. It always has.
 fn draft_open(alloc: Global, sketch: &Sketch<'_>, notes: &LoopNotes) -> Result<LoopDraft, Stop>
     requires { IsGraphOf (text_of sketch.now.view.now) sketch.now.graph.now }
-    ensures { AnswersBy (λ draft. draft) result (IsGraphDrafted sketch.now.view.now sketch.now.most sketch.now.graph.now) }
+    ensures drafted { AnswersBy (λ draft. draft) result (IsGraphDrafted sketch.now.view.now sketch.now.most sketch.now.graph.now) }
+    ensures allowed { IfOk result (λ draft. IsAllowed sketch.now.trusts draft.trust) }
 {
     let bounds = open_all(alloc, notes, Reason::NotConfirmed)?;
-    match draft_bounds(alloc, sketch, &bounds)? {
+    match draft_bounds(alloc, sketch, bounds)? {
         Some(draft) => Ok(draft),
         None => Err(Stop::Memory),
     }
@@ -238,21 +251,24 @@ fn draft_found(
     counts: bool,
 ) -> Result<Option<LoopDraft>, Stop>
     requires { IsGraphOf (text_of sketch.now.view.now) sketch.now.graph.now }
-    ensures { AnswersBy (λ draft. draft) result (IsDraftTried sketch.now.view.now sketch.now.most sketch.now.graph.now) }
+    ensures drafted { AnswersBy (λ draft. draft) result (IsDraftTried sketch.now.view.now sketch.now.most sketch.now.graph.now) }
+    ensures allowed { IfOk result (λ draft. IfSome draft (λ draft. IsAllowed sketch.now.trusts draft.trust)) }
 {
     let wanted = Wanted {
         notes,
         counts,
         most: sketch.most,
+        trusts: sketch.trusts,
     };
     let bounds = find_bounds(alloc, sketch.view, sketch.graph, wanted)?;
-    draft_bounds(alloc, sketch, &bounds)
+    draft_bounds(alloc, sketch, bounds)
 }
 
 // The same that counts no loops, or else the draft without bounds.
 fn draft_uncounted(alloc: Global, sketch: &Sketch<'_>, notes: &LoopNotes) -> Result<LoopDraft, Stop>
     requires { IsGraphOf (text_of sketch.now.view.now) sketch.now.graph.now }
-    ensures { AnswersBy (λ draft. draft) result (IsGraphDrafted sketch.now.view.now sketch.now.most sketch.now.graph.now) }
+    ensures drafted { AnswersBy (λ draft. draft) result (IsGraphDrafted sketch.now.view.now sketch.now.most sketch.now.graph.now) }
+    ensures allowed { IfOk result (λ draft. IsAllowed sketch.now.trusts draft.trust) }
 {
     match draft_found(alloc, sketch, notes, false)? {
         Some(draft) => Ok(draft),
@@ -263,13 +279,19 @@ fn draft_uncounted(alloc: Global, sketch: &Sketch<'_>, notes: &LoopNotes) -> Res
 // The draft of a sketch. Where a rewritten image doesn't take what it counts, none that counts: it always does, since no other loops are proposed.
 fn draft_sketch(alloc: Global, sketch: &Sketch<'_>) -> Result<LoopDraft, Stop>
     requires { IsGraphOf (text_of sketch.now.view.now) sketch.now.graph.now }
-    ensures { AnswersBy (λ draft. draft) result (IsGraphDrafted sketch.now.view.now sketch.now.most sketch.now.graph.now) }
+    ensures drafted { AnswersBy (λ draft. draft) result (IsGraphDrafted sketch.now.view.now sketch.now.most sketch.now.graph.now) }
+    ensures allowed { IfOk result (λ draft. IsAllowed sketch.now.trusts draft.trust) }
 {
     let known = unknown(alloc, sketch.found.loops.len())?;
     let remarks = remarks_of(sketch).brief();
+    let none = Trust::none(alloc);
     let first = FirstLines {
         returns: false,
         most: sketch.most,
+        trusted: Trusted {
+            graph: sketch.graph,
+            trust: &none,
+        },
     };
     let pieces = pieces_of(alloc, &remarks, &sketch.found, &known, first)?;
     let notes = read_pieces(alloc, sketch.view, &pieces)?;
@@ -289,7 +311,8 @@ fn draft_graph<'a, P: Progress>(
 ) -> Result<LoopDraft, Stop>
     requires plain { view.now.keyed_segment ≡ None }
     requires graph { IsGraphOf (text_of view.now) graph.now }
-    ensures { AnswersBy (λ draft. draft) result (IsGraphDrafted view.now inputs.now.most graph.now) }
+    ensures drafted { AnswersBy (λ draft. draft) result (IsGraphDrafted view.now inputs.now.most graph.now) }
+    ensures allowed { IfOk result (λ draft. IsAllowed inputs.now.trusts draft.trust) }
 {
     let found = find_loops(alloc, graph)?;
     let count = found.loops.len();
@@ -307,6 +330,7 @@ fn draft_graph<'a, P: Progress>(
         lines,
         turns,
         most: inputs.most,
+        trusts: inputs.trusts,
     };
     draft_sketch(alloc, &sketch)
 }
@@ -319,7 +343,8 @@ fn draft_plain<P: Progress>(
     progress: &mut P,
 ) -> Result<LoopDraft, Stop>
     requires { view.now.keyed_segment ≡ None }
-    ensures { AnswersBy (λ draft. draft) result (IsDraftedImage view.now inputs.now.most) }
+    ensures drafted { AnswersBy (λ draft. draft) result (IsDraftedImage view.now inputs.now.most) }
+    ensures allowed { IfOk result (λ draft. IsAllowed inputs.now.trusts draft.trust) }
 {
     let graph = build_graph(alloc, view)?;
     draft_graph(alloc, view, &graph, inputs, progress)
@@ -332,7 +357,8 @@ fn draft_image<P: Progress>(
     inputs: &DraftInputs<'_>,
     progress: &mut P,
 ) -> Result<LoopDraft, Stop>
-    ensures { AnswersBy (λ draft. draft) result (IsDraftedImage view.now inputs.now.most) }
+    ensures drafted { AnswersBy (λ draft. draft) result (IsDraftedImage view.now inputs.now.most) }
+    ensures allowed { IfOk result (λ draft. IsAllowed inputs.now.trusts draft.trust) }
 {
     match view.keyed() {
         Some(_) => Err(Stop::Refused(Refusal::AlreadyScaled)),
@@ -356,7 +382,8 @@ pub fn draft_loops<P: Progress>(
     inputs: &DraftInputs<'_>,
     progress: &mut P,
 ) -> Result<LoopDraft, Stop>
-    ensures { AnswersBy (λ draft. draft) result (IsDrafted image.now inputs.now.most) }
+    ensures drafted { AnswersBy (λ draft. draft) result (IsDrafted image.now inputs.now.most) }
+    ensures allowed { IfOk result (λ draft. IsAllowed inputs.now.trusts draft.trust) }
 {
     let view = read_image(alloc, image)?;
     draft_image(alloc, &view, inputs, progress)

@@ -1,12 +1,14 @@
 //! The pieces of a drafted loop file.
 
 ghost use Rattle.std.specs.Prelude.{◌≡◌, ◌++◌, IfOk, OnOk, string_bytes};
-ghost use Rattle.loop_drafts.specs.Pieces.{HasFirstLines, first_lines, inputs_line, printed, printed_piece, returns_line};
+ghost use Rattle.loop_drafts.specs.Trusting.{trusted_stores};
+ghost use Rattle.loop_drafts.specs.Pieces.{HasFirstLines, first_lines, inputs_line, printed, printed_piece, returns_line, trusted_line};
 
 use crate::draft::{Counter, Draft, Known, Place, Way};
 use crate::drafted::Piece;
 use crate::found::{AsidePart, FoundLoop, FoundLoops};
 use crate::remarks::Remarks;
+use crate::trusted::Trusted;
 use code_names::{Names, PlaceWords};
 use scale_base::{NoMemory, Range};
 use scale_report::Address;
@@ -235,11 +237,12 @@ fn returns_line(returns: bool) -> &'static str
     }
 }
 
-/// What the first lines tell: whether returns are proved to go back, and how many bytes an input has at most, where that is told.
+/// What the first lines tell: whether returns are proved to go back, how many bytes an input has at most, where that is told, and what is trusted.
 #[derive(Clone, Copy)]
-pub struct FirstLines {
+pub struct FirstLines<'a> {
     pub returns: bool,
     pub most: Option<u32>,
+    pub trusted: Trusted<'a>,
 }
 
 // Adds the line that tells how many bytes an input has at most, where that is told.
@@ -252,12 +255,23 @@ fn push_most(text: &mut String, most: Option<u32>) -> Result<(), AllocError>
     }
 }
 
+// Adds the line that tells how many stores are trusted, where some are.
+fn push_trusted(text: &mut String, trusted: usize) -> Result<(), AllocError>
+    ensures { OnOk result (string_bytes text.new ≡ string_bytes text.old ++ trusted_line trusted) }
+{
+    if trusted == 0 {
+        return Ok(());
+    }
+    write!(text, "# trusted stores: {trusted}\n")
+}
+
 // The piece that begins the file.
-fn first_piece(alloc: Global, first: FirstLines) -> Result<Piece, NoMemory>
-    ensures { IfOk result (λ piece. printed_piece piece ≡ first_lines first.most first.returns) }
+fn first_piece(alloc: Global, first: FirstLines<'_>) -> Result<Piece, NoMemory>
+    ensures { IfOk result (λ piece. printed_piece piece ≡ first_lines first.most first.returns (trusted_stores first.trusted.trust.now)) }
 {
     let mut text = String::from_str(alloc, returns_line(first.returns))?;
     push_most(&mut text, first.most)?;
+    push_trusted(&mut text, first.trusted.trust.count())?;
     Ok(Piece {
         text,
         is_open: false,
@@ -270,6 +284,7 @@ fn head_piece(
     remarks: &Remarks<'_>,
     found: &FoundLoops,
     known: &[Known],
+    trusted: Trusted<'_>,
 ) -> Result<Piece, NoMemory> {
     let mut text = String::new(alloc);
     let loops = found.loops.len();
@@ -287,6 +302,7 @@ fn head_piece(
     if found.aside.len() > MOST_TOLD {
         text.push_str("# irreducible, no loop: more parts\n")?;
     }
+    trusted.push(&mut text, remarks)?;
     remarks.push_endings(&mut text)?;
     text.push_str("version = 2\n")?;
     Ok(Piece {
@@ -301,9 +317,10 @@ fn loop_pieces(
     remarks: &Remarks<'_>,
     found: &FoundLoops,
     known: &[Known],
+    trusted: Trusted<'_>,
 ) -> Result<Vec<Piece>, NoMemory> {
     let mut pieces = Vec::new(alloc);
-    pieces.push(head_piece(alloc, remarks, found, known)?)?;
+    pieces.push(head_piece(alloc, remarks, found, known, trusted)?)?;
     for (k, (looped, one)) in found.loops.iter().zip(known).enumerate() {
         let outer = match looped.parent {
             Some(header) => number_of(&found.loops, header),
@@ -324,12 +341,12 @@ pub fn pieces_of(
     remarks: &Remarks<'_>,
     found: &FoundLoops,
     known: &[Known],
-    first: FirstLines,
+    first: FirstLines<'_>,
 ) -> Result<Vec<Piece>, NoMemory>
-    ensures { IfOk result (λ pieces. HasFirstLines first.most first.returns (printed pieces.items)) }
+    ensures { IfOk result (λ pieces. HasFirstLines first.entry.most first.entry.returns (trusted_stores first.entry.trusted.trust.now) (printed pieces.items)) }
 {
-    let first = first_piece(alloc, first)?;
-    let mut pieces = loop_pieces(alloc, remarks, found, known)?;
-    pieces.insert(0, first)?;
+    let begins = first_piece(alloc, first)?;
+    let mut pieces = loop_pieces(alloc, remarks, found, known, first.trusted)?;
+    pieces.insert(0, begins)?;
     Ok(pieces)
 }

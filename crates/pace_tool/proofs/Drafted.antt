@@ -16,7 +16,8 @@ use Rattle.loop_drafts.specs.Drafted.{AreTaken, IsDraftOf, IsDrafted, filled_mos
 use Rattle.loop_drafts.specs.Kept.{AreBytes}
 use Rattle.loop_drafts.specs.Pieces.{HasFirstLines, bound_line, filled, filled_piece, printed, printed_piece}
 use Rattle.loop_drafts.specs.Shapes.{HaveOneShape}
-use Rattle.loop_drafts.proofs.Laws.{bounds_free, bounds_kept, files_kept, files_need_returns, returns_go_back}
+use Rattle.loop_drafts.specs.Trusting.{trusted_stores}
+use Rattle.loop_drafts.proofs.Laws.{bounds_free, bounds_kept, files_kept, files_need_returns, nothing_trusted, returns_go_back, trust_before}
 use Rattle.version_fits.proofs.Laws.{printed_short, printed_shorter}
 use Rattle.pace_tool.specs.Drafts.{AlwaysGoesBack, AreNeverRefused, AreTakenIn, IsDraftFile, IsDraftedSafely, IsFinishedFile, IsKeptAlways, IsKeptByReturns, IsKeptByWritten, IsLoopFile}
 
@@ -64,30 +65,31 @@ module _ (original : Image) (most : Option ℕ) (draft : LoopDraft) (of : IsDraf
       let same : HaveOneShape of.pieces.notes notes = subst (λ (drafted : List LoopNote). HaveOneShape drafted notes) one is.shape in
       λ v refusal graph built. bounds_free (text_of original) its.graph v of.pieces.notes notes its.tree refusal its.graph_is graph same its.tree_is built
 
-module _ (image : List ℕ) (most : Option ℕ) (stored : List ℕ) (bytes : AreBytes image) (draft : LoopDraft) (file : IsDraftFile image most stored draft) where
+module _ (image : List ℕ) (most : Option ℕ) (trusts : Bool) (stored : List ℕ) (bytes : AreBytes image) (draft : LoopDraft) (file : IsDraftFile image most trusts stored draft) where
   abbrev original : Image
   original = file.drafted.0
 
-  kept_by_returns : draft.unbounded ≡ 0 → draft.proved ≡ draft.loops → IsKeptByReturns original most stored
-  kept_by_returns none all notes read levels input n are within back =
-      let law = files_need_returns image most draft original levels input n bytes are within file.drafted file.drafted.1 none all back in
+  kept_by_returns : draft.unbounded ≡ 0 → draft.proved ≡ draft.loops → IsKeptByReturns original most draft.trust stored
+  kept_by_returns none all notes read levels input n are within tidy back =
+      let law = files_need_returns image most draft original levels input n bytes are within file.drafted file.drafted.1 none all tidy back in
       let its : read_loops original stored ≡ Ok law.0 = ap (read_loops original) file.is_printed ∙ law.1 in
       let one : law.0 ≡ notes = cc in
       subst (λ (ns : List LoopNote). IsKeptUpTo original levels input (noted_loops ns) n) one law.2
 
-  goes_back : draft.returns ≡ true → AlwaysGoesBack original
-  goes_back proved levels input n are m le = returns_go_back image most draft original levels input m bytes are file.drafted file.drafted.1 proved
+  goes_back : draft.returns ≡ true → AlwaysGoesBack original draft.trust
+  goes_back proved levels input n are tidy m le =
+      returns_go_back image most draft original levels input m bytes are file.drafted file.drafted.1 proved (trust_before original draft.trust levels input m n le tidy)
 
-  kept_always : draft.unbounded ≡ 0 → draft.proved ≡ draft.loops → draft.returns ≡ true → IsKeptAlways original most stored
-  kept_always none all proved notes read levels input n are within =
+  kept_always : draft.unbounded ≡ 0 → draft.proved ≡ draft.loops → draft.returns ≡ true → IsKeptAlways original most draft.trust stored
+  kept_always none all proved notes read levels input n are within tidy =
       let law = files_kept image most draft original bytes file.drafted file.drafted.1 none all proved in
       let its : read_loops original stored ≡ Ok law.0 = ap (read_loops original) file.is_printed ∙ law.1 in
       let one : law.0 ≡ notes = cc in
-      subst (λ (ns : List LoopNote). IsKeptUpTo original levels input (noted_loops ns) n) one (law.2 levels input n are within)
+      subst (λ (ns : List LoopNote). IsKeptUpTo original levels input (noted_loops ns) n) one (law.2 levels input n are within tidy)
 
-  kept_by_written : (finished : List ℕ) (notes : List LoopNote) (is : IsFinishedFile original draft finished notes) → IsKeptByWritten original most is.drafted notes
-  kept_by_written finished notes is levels input bounds trips n are within low kept =
-      bounds_kept image most draft original is.drafted notes levels input bounds trips n bytes file.drafted file.drafted.1 is.drafted_are is.finished are within low kept
+  kept_by_written : (finished : List ℕ) (notes : List LoopNote) (is : IsFinishedFile original draft finished notes) → IsKeptByWritten original most draft.trust is.drafted notes
+  kept_by_written finished notes is levels input bounds trips n are within tidy low kept =
+      bounds_kept image most draft original is.drafted notes levels input bounds trips n bytes file.drafted file.drafted.1 is.drafted_are is.finished are within tidy low kept
 
   pub drafted_safely : IsDraftedSafely image most stored draft
   drafted_safely =
@@ -98,7 +100,8 @@ module _ (image : List ℕ) (most : Option ℕ) (stored : List ℕ) (bytes : Are
         short = let shorter = printed_shorter most_turns draft.pieces.items in let low : length (filled_most draft.pieces.items) ≤ 1048576 = of.pieces.file.short in let size = ap length file.is_printed in omega arith;
         whole = whole_file original most draft of stored file.is_printed;
         kept = kept_by_returns;
-        begins = subst (HasFirstLines most draft.returns) (sym file.is_printed) of.begins;
+        begins = subst (HasFirstLines most draft.returns (trusted_stores draft.trust)) (sym file.is_printed) of.begins;
+        untrusting = λ none levels input n. nothing_trusted original draft.trust levels input n none;
         goes_back = goes_back;
         premise_free = kept_always;
         taken = finished_taken original most draft of;

@@ -71,7 +71,7 @@ module _ (image machine out : List ℕ) (most : Option ℕ) (inputs : List (List
     is_tried : IsTriedSafely versions plain tried
     are : AreBytes tried
 
-  fitted_kept : (plain tried text file : List ℕ) (draft : LoopDraft) → IsGoingOn plain tried → Drafts tried most (Ok ((file, draft))) → draft.unbounded ≡ 0 →
+  fitted_kept : (plain tried text file : List ℕ) (draft : LoopDraft) → IsGoingOn plain tried → Drafts tried most false (Ok ((file, draft))) → draft.unbounded ≡ 0 →
       MakesFitted machine out inputs tried file (text ++ drafted_text draft) answer → IsKept
   fitted_kept plain tried text file draft goes drafted closed (inl long) = absurd (done (ap status_of long.1))
   fitted_kept plain tried text file draft goes drafted closed (inr made) =
@@ -90,12 +90,12 @@ module _ (image machine out : List ℕ) (most : Option ℕ) (inputs : List (List
         draft = draft;
         is_drafted = drafted;
         closed = closed;
-        drafted = drafted_safely tried most file goes.are draft drafted;
+        drafted = drafted_safely tried most false file goes.are draft drafted;
         fitted = subst (λ stored. StoredPromise (FitsAny tried machine file inputs) (IsFittedSafely tried machine file) (get (with_stores stored files) out)) stores
             (fit_kept tried machine file inputs out files fitted made.1.1 ended);
       }
 
-  drafted_kept : (plain tried text : List ℕ) (given : Result (List ℕ × LoopDraft) Refusal) → IsGoingOn plain tried → Drafts tried most given →
+  drafted_kept : (plain tried text : List ℕ) (given : Result (List ℕ × LoopDraft) Refusal) → IsGoingOn plain tried → Drafts tried most false given →
       MakesDrafted machine out inputs tried text given answer → IsKept
   drafted_kept plain tried text (Err refusal) goes drafted is = absurd (done (ap status_of is))
   drafted_kept plain tried text (Ok given) goes drafted (inl open_one) = absurd (done (ap status_of open_one.1))

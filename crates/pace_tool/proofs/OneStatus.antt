@@ -113,7 +113,7 @@ one_made : (command : Command) → has_one_status command ≡ true → (files : 
 one_made (Fit image machine loops out inputs) pinned (i ∷ m ∷ l ∷ given) one other x y = one_fit i m l out given one other x y
 one_made (FitVersions image machine loops out inputs) pinned files one other x y = absurd (cc)
 one_made (Show image machine loops) pinned (i ∷ m ∷ l ∷ []) one other x y = runs.one_told (AreReasons i m l) (text_answer reasons_text) (text_same (AreReasons i m l) (reasons_apart i m l) reasons_text) one other x y
-one_made (Loops image out most inputs) pinned files one other x y = absurd (cc)
+one_made (Loops image out most trusts inputs) pinned files one other x y = absurd (cc)
 one_made (Explain image machine loops) pinned (i ∷ m ∷ l ∷ []) one other x y =
     runs.one_told (AreExplained i m l) (text_answer explained_text) (text_same (AreExplained i m l) (explained_apart i m l) explained_text) one other x y
 one_made (DrawRun machine out names) pinned (m ∷ given) one other x y =
@@ -137,7 +137,7 @@ status_small : (command : Command) (files : List (List ℕ)) (answer : Answer) �
 status_small (Fit image machine loops out inputs) (i ∷ m ∷ l ∷ given) answer x = fit_small i m l given out answer x
 status_small (FitVersions image machine loops out inputs) (i ∷ m ∷ l ∷ given) answer x = versions_small i m l given out answer x
 status_small (Show image machine loops) (i ∷ m ∷ l ∷ []) answer x = text_told (AreReasons i m l) reasons_text answer x
-status_small (Loops image out most inputs) (i ∷ given) answer x = file_told (Drafts i most) drafted_text out answer x.1
+status_small (Loops image out most trusts inputs) (i ∷ given) answer x = file_told (Drafts i most trusts) drafted_text out answer x.1
 status_small (Explain image machine loops) (i ∷ m ∷ l ∷ []) answer x = text_told (AreExplained i m l) explained_text answer x
 status_small (DrawRun machine out names) (m ∷ given) answer x = file_told (DrawsRuns m names given) picture_text out answer x
 status_small (DrawPlan image machine loops out) (i ∷ m ∷ l ∷ []) answer x = file_told (DrawsPlan i m l) plan_text out answer x

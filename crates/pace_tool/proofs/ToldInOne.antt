@@ -40,7 +40,7 @@ module _ (machine out : List ℕ) (most : Option ℕ) (inputs : List (List ℕ))
   tried_told versions plain text tried told_text result is told =
       so_replies (MakesOfTried machine out most inputs tried (text ++ told_text)) (MakesOfPlain machine out most inputs versions (Ok ((plain, text)))) result (λ answer made. (tried, told_text, is, made)) told
 
-  pub plain_told : (image text : List ℕ) (drafted : Result (List ℕ × LoopDraft) Refusal) (result : Result Reply NoMemory) → AreBytes image → Drafts image most drafted →
+  pub plain_told : (image text : List ℕ) (drafted : Result (List ℕ × LoopDraft) Refusal) (result : Result Reply NoMemory) → AreBytes image → Drafts image most false drafted →
       Replies (MakesDrafted machine out inputs image text drafted) result → Replies (MakesOfTried machine out most inputs image text) result
   plain_told image text drafted result bytes is told =
       so_replies (MakesDrafted machine out inputs image text drafted) (MakesOfTried machine out most inputs image text) result (λ answer made. (bytes, (drafted, is, made))) told

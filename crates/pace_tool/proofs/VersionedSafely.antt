@@ -4,7 +4,7 @@ use Rattle.std.specs.Prelude.{Ok}
 use Rattle.scale_base.specs.Image.{Image, contents, image_of}
 use Rattle.scale_base.proofs.Laws.{contents-are}
 use Rattle.loop_drafts.specs.Kept.{AreBytes}
-use Rattle.loop_drafts.proofs.Laws.{returns_go_back}
+use Rattle.loop_drafts.proofs.Laws.{nothing_trusted, returns_go_back}
 use Rattle.loop_versions.specs.declared.pieces.Piece.{Piece}
 use Rattle.loop_versions.specs.declared.pieces.Site.{Site}
 use Rattle.loop_versions.specs.Made.{IsVersioned}
@@ -28,8 +28,8 @@ versioned_safely plain tried image versioned pieces sites base read is file = re
   file = file;
   exits = λ levels input n status bytes back exited. versioned_runs_exit image versioned pieces sites base levels input n status is bytes back exited;
   follows = λ levels input n bytes outside back. versioned_runs_follow image versioned pieces sites base levels input n is bytes outside back;
-  goes_back = λ limit draft drafted proved levels input n bytes has.
+  goes_back = λ limit draft drafted none proved levels input n bytes has.
       let own = subst AreBytes (read_file plain image read) is.bytes in
-      let back = returns_go_back plain limit draft image levels input n own bytes drafted read proved in
+      let back = returns_go_back plain limit draft image levels input n own bytes drafted read proved (nothing_trusted image draft.trust levels input n none) in
       (back.0, back.1);
 }

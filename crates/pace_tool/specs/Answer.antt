@@ -38,7 +38,7 @@ abbrev pub Makes : Command → List (List ℕ) → Answer → Type 0
 Makes (Fit image machine loops out inputs) (i ∷ m ∷ l ∷ given) answer = MakesFit i m l given out answer
 Makes (FitVersions image machine loops out inputs) (i ∷ m ∷ l ∷ given) answer = MakesVersionFit i m l given out answer
 Makes (Show image machine loops) (i ∷ m ∷ l ∷ []) answer = Tells (AreReasons i m l) (text_answer reasons_text) answer
-Makes (Loops image out most inputs) (i ∷ given) answer = AreBytes i × Tells (Drafts i most) (stored_answer drafted_text out) answer
+Makes (Loops image out most trusts inputs) (i ∷ given) answer = AreBytes i × Tells (Drafts i most trusts) (stored_answer drafted_text out) answer
 Makes (Explain image machine loops) (i ∷ m ∷ l ∷ []) answer = Tells (AreExplained i m l) (text_answer explained_text) answer
 Makes (DrawRun machine out names) (m ∷ given) answer = Tells (DrawsRuns m names given) (stored_answer picture_text out) answer
 Makes (DrawPlan image machine loops out) (i ∷ m ∷ l ∷ []) answer = Tells (DrawsPlan i m l) (stored_answer plan_text out) answer

@@ -7,7 +7,7 @@ pub data Command : Type 0 where
   Fit : (image machine loops out : List ℕ) (inputs : List (List ℕ)) → Command
   FitVersions : (image machine loops out : List ℕ) (inputs : List (List ℕ)) → Command
   Show : (image machine loops : List ℕ) → Command
-  Loops : (image out : List ℕ) (most : Option ℕ) (inputs : List (List ℕ)) → Command
+  Loops : (image out : List ℕ) (most : Option ℕ) (trusts : Bool) (inputs : List (List ℕ)) → Command
   Explain : (image machine loops : List ℕ) → Command
   DrawRun : (machine out : List ℕ) (names : List (List ℕ)) → Command
   DrawPlan : (image machine loops out : List ℕ) → Command
@@ -50,7 +50,7 @@ abbrev pub wants_of : Command → Wants
 wants_of (Fit image machine loops out inputs) = program_wants image machine loops (input_wants FILE_LIMIT inputs)
 wants_of (FitVersions image machine loops out inputs) = program_wants image machine loops (input_wants FILE_LIMIT inputs)
 wants_of (Show image machine loops) = program_wants image machine loops []
-wants_of (Loops image out most inputs) = image_wants image (input_wants (input_limit most) inputs)
+wants_of (Loops image out most trusts inputs) = image_wants image (input_wants (input_limit most) inputs)
 wants_of (Explain image machine loops) = program_wants image machine loops []
 wants_of (DrawRun machine out names) = drawn_wants machine names
 wants_of (DrawPlan image machine loops out) = program_wants image machine loops []
@@ -72,7 +72,7 @@ abbrev pub has_one_status : Command → Bool
 has_one_status (Fit image machine loops out inputs) = true
 has_one_status (FitVersions image machine loops out inputs) = false
 has_one_status (Show image machine loops) = true
-has_one_status (Loops image out most inputs) = false
+has_one_status (Loops image out most trusts inputs) = false
 has_one_status (Explain image machine loops) = true
 has_one_status (DrawRun machine out names) = true
 has_one_status (DrawPlan image machine loops out) = true

@@ -1,5 +1,5 @@
 -- What `loops` gives for an image, for inputs of so many bytes at most, where that is told, and what the stored file keeps to.
-use Rattle.std.specs.Prelude.{◌≡◌, ℕ, ◌<◌, ◌≤◌, true, List, length, Option, Some, Result, Ok, Err}
+use Rattle.std.specs.Prelude.{◌≡◌, ℕ, ◌<◌, ◌≤◌, Bool, true, List, length, Option, Some, Result, Ok, Err}
 use Rattle.scale_base.specs.declared.limits.TheConstants.{FILE_LIMIT}
 use Rattle.scale_base.specs.declared.refusal.Refusal.{Refusal}
 use Rattle.scale_base.specs.Image.{Image, image_of}
@@ -16,21 +16,24 @@ use Rattle.loop_file.specs.Kept.{note_at, noted_loops}
 use Rattle.loop_file.specs.Loops.{read_loops}
 use Rattle.loop_forest.specs.Tree.{LoopView, IsTreeOf, IsTreeBuilt}
 use Rattle.loop_drafts.specs.declared.drafted.LoopDraft.{LoopDraft}
+use Rattle.loop_drafts.specs.declared.trusting.Trust.{Trust}
+use Rattle.loop_drafts.specs.Trusting.{AreNoneTrusted, IsAllowed, IsTrustKept, trusted_stores}
 use Rattle.loop_drafts.specs.Bounds.{IsOpen}
 use Rattle.loop_drafts.specs.Drafted.{IsDrafted, filled_most}
 use Rattle.loop_drafts.specs.Kept.{AreBytes, AreFinished}
 use Rattle.loop_drafts.specs.Pieces.{HasFirstLines, printed}
 use Rattle.loop_drafts.specs.Shapes.{HaveOneShape}
 
--- a draft of the image's loop file, and the file as it is printed
-pub record IsDraftFile (image : List ℕ) (most : Option ℕ) (stored : List ℕ) (draft : LoopDraft) : Type 0 where
+-- a draft of the image's loop file, which trusts stores only where that is allowed, and the file as it is printed
+pub record IsDraftFile (image : List ℕ) (most : Option ℕ) (trusts : Bool) (stored : List ℕ) (draft : LoopDraft) : Type 0 where
   pub drafted : IsDrafted image most (Ok draft)
+  pub allowed : IsAllowed trusts draft.trust
   pub is_printed : stored ≡ printed draft.pieces.items
 
 -- what `loops` gives: such a file with its draft, or the refusal
-abbrev pub Drafts : (image : List ℕ) → Option ℕ → Result (List ℕ × LoopDraft) Refusal → Type 0
-Drafts image most (Ok given) = IsDraftFile image most given.0 given.1
-Drafts image most (Err refusal) = IsDrafted image most (Err refusal)
+abbrev pub Drafts : (image : List ℕ) → Option ℕ → (trusts : Bool) → Result (List ℕ × LoopDraft) Refusal → Type 0
+Drafts image most trusts (Ok given) = IsDraftFile image most trusts given.0 given.1
+Drafts image most trusts (Err refusal) = IsDrafted image most (Err refusal)
 
 -- ---- a loop file, as it is stored or finished by hand
 
@@ -68,31 +71,34 @@ abbrev pub ReturnsGoBack : Image → (levels : ℕ) (input : List ℕ) (n : ℕ)
 ReturnsGoBack original levels input n = (m : ℕ) → m ≤ n → (rs : List ℕ) × (returns_so (run_of original levels input m).steps ≡ Some rs) ×
     (length rs ≤ most_returns)
 
--- on every input, however long, for as long as it runs
-abbrev pub AlwaysGoesBack : Image → Type 0
-AlwaysGoesBack original = (levels : ℕ) (input : List ℕ) (n : ℕ) → AreBytes input → ReturnsGoBack original levels input n
+-- on every input, however long, for as long as it runs, and as no store that is trusted changes a word that is kept
+abbrev pub AlwaysGoesBack : Image → Trust → Type 0
+AlwaysGoesBack original trust = (levels : ℕ) (input : List ℕ) (n : ℕ) → AreBytes input → IsTrustKept original trust levels input n →
+    ReturnsGoBack original levels input n
 
--- every run keeps the loop file, on every input of at most so many bytes, where that is told: what a stored image promises of runs that keep
--- the file, it promises of all on such inputs
-abbrev pub IsKeptAlways : Image → Option ℕ → (file : List ℕ) → Type 0
-IsKeptAlways original most file =
+-- every run in which no store that is trusted changes a word that is kept keeps the loop file, on every input of at most so many bytes, where that is told:
+-- what a stored image promises of runs that keep the file, it promises of all those on such inputs
+abbrev pub IsKeptAlways : Image → Option ℕ → Trust → (file : List ℕ) → Type 0
+IsKeptAlways original most trust file =
     (notes : List LoopNote) → read_loops original file ≡ Ok notes →
-    (levels : ℕ) (input : List ℕ) (n : ℕ) → AreBytes input → IsInputWithin most input →
+    (levels : ℕ) (input : List ℕ) (n : ℕ) → AreBytes input → IsInputWithin most input → IsTrustKept original trust levels input n →
     IsKeptUpTo original levels input (noted_loops notes) n
 
--- on every such input a run keeps the loop file as long as its returns go back
-abbrev pub IsKeptByReturns : Image → Option ℕ → (file : List ℕ) → Type 0
-IsKeptByReturns original most file =
+-- on every such input such a run keeps the loop file as long as its returns go back
+abbrev pub IsKeptByReturns : Image → Option ℕ → Trust → (file : List ℕ) → Type 0
+IsKeptByReturns original most trust file =
     (notes : List LoopNote) → read_loops original file ≡ Ok notes →
-    (levels : ℕ) (input : List ℕ) (n : ℕ) → AreBytes input → IsInputWithin most input → ReturnsGoBack original levels input n →
+    (levels : ℕ) (input : List ℕ) (n : ℕ) → AreBytes input → IsInputWithin most input → IsTrustKept original trust levels input n →
+    ReturnsGoBack original levels input n →
     IsKeptUpTo original levels input (noted_loops notes) n
 
--- On every such input a run that is kept by some bounds and least turns is kept by those of notes, where each loop whose bound was written by
+-- On every such input such a run that is kept by some bounds and least turns is kept by those of notes, where each loop whose bound was written by
 -- hand has one that is no less, and least turns that are no more: so no run breaks a bound or least turns of the draft before it breaks what
 -- was written by hand, or a return address.
-abbrev pub IsKeptByWritten : Image → Option ℕ → (drafted notes : List LoopNote) → Type 0
-IsKeptByWritten original most drafted notes =
+abbrev pub IsKeptByWritten : Image → Option ℕ → Trust → (drafted notes : List LoopNote) → Type 0
+IsKeptByWritten original most trust drafted notes =
     (levels : ℕ) (input : List ℕ) (bounds trips : ℕ → ℕ) (n : ℕ) → AreBytes input → IsInputWithin most input →
+    IsTrustKept original trust levels input n →
     ((k : ℕ) → k < length notes → IsOpen (note_at drafted k) →
     (bounds k ≤ (note_at notes k).bound) × ((note_at notes k).at_least ≤ trips k)) →
     IsKeptUpTo original levels input (with_trips (with_bounds (noted_loops notes) bounds) trips) n →
@@ -107,17 +113,21 @@ pub record IsDraftedSafely (image : List ℕ) (most : Option ℕ) (stored : List
   pub short : length stored ≤ FILE_LIMIT
   -- where no loop is open, it is a loop file of the image
   pub whole : draft.unbounded ≡ 0 → IsLoopFile original draft stored
-  -- where all bounds are proved as well, every run keeps it whose returns go back, on every input of at most so many bytes, where that is told
-  pub kept : draft.unbounded ≡ 0 → draft.proved ≡ draft.loops → IsKeptByReturns original most stored
-  -- its first line is `# returns: proved` or `# returns: open`, and the next one `# inputs: at most N bytes`, where that is told; where returns
-  -- are proved, those of every run go back, on every input, however long,
-  pub begins : HasFirstLines most draft.returns stored
-  pub goes_back : draft.returns ≡ true → AlwaysGoesBack original
-  -- and where all bounds are proved as well, every run keeps it, with no premise but that its input is as short as is told
-  pub premise_free : draft.unbounded ≡ 0 → draft.proved ≡ draft.loops → draft.returns ≡ true → IsKeptAlways original most stored
+  -- where all bounds are proved as well, every run keeps it whose returns go back and in which no store that is trusted changes a word that is kept, on every
+  -- input of at most so many bytes, where that is told
+  pub kept : draft.unbounded ≡ 0 → draft.proved ≡ draft.loops → IsKeptByReturns original most draft.trust stored
+  -- its first line is `# returns: proved` or `# returns: open`, the next one `# inputs: at most N bytes`, where that is told, and the next one
+  -- `# trusted stores: N`, where some are; where none is, nothing is asked of a run for that,
+  pub begins : HasFirstLines most draft.returns (trusted_stores draft.trust) stored
+  pub untrusting : AreNoneTrusted draft.trust → (levels : ℕ) (input : List ℕ) (n : ℕ) → IsTrustKept original draft.trust levels input n
+  -- where returns are proved, those of every run go back, on every input, however long,
+  pub goes_back : draft.returns ≡ true → AlwaysGoesBack original draft.trust
+  -- and where all bounds are proved as well, every run keeps it, with no premise but that its input is as short as is told, and no trusted store changes a
+  -- word that is kept
+  pub premise_free : draft.unbounded ≡ 0 → draft.proved ≡ draft.loops → draft.returns ≡ true → IsKeptAlways original most draft.trust stored
   -- with bounds that are written by hand, its loops are taken where no part of the code turns that is no loop,
   pub taken : draft.aside ≡ 0 → (file : List ℕ) (notes : List LoopNote) → IsFinishedFile original draft file notes →
       AreNeverRefused original notes
   -- and these are all that a run has to keep
   pub finished : (file : List ℕ) (notes : List LoopNote) (is : IsFinishedFile original draft file notes) →
-      IsKeptByWritten original most is.drafted notes
+      IsKeptByWritten original most draft.trust is.drafted notes

@@ -87,7 +87,7 @@ MakesDrafted machine out inputs image text (Err refusal) answer = answer ≡ ref
 -- that for the image that is fitted
 abbrev pub MakesOfTried : (machine out : List ℕ) (most : Option ℕ) (inputs : List (List ℕ)) (tried text : List ℕ) → Answer → Type 0
 MakesOfTried machine out most inputs tried text answer =
-    AreBytes tried × ((drafted : Result (List ℕ × LoopDraft) Refusal) × Drafts tried most drafted ×
+    AreBytes tried × ((drafted : Result (List ℕ × LoopDraft) Refusal) × Drafts tried most false drafted ×
     MakesDrafted machine out inputs tried text drafted answer)
 
 -- ---- versions

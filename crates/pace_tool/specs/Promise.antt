@@ -14,6 +14,7 @@ use Rattle.image_lower.specs.Lowered.{IsLowered}
 use Rattle.image_lower.specs.Promise.{IsLoweredSafely}
 use Rattle.loop_drafts.specs.declared.drafted.LoopDraft.{LoopDraft}
 use Rattle.loop_drafts.specs.Drafted.{IsDrafted}
+use Rattle.loop_drafts.specs.Trusting.{AreNoneTrusted}
 use Rattle.loop_drafts.specs.Kept.{AreBytes}
 use Rattle.graph_runs.specs.KeptRuns.{IsKeptUpTo}
 use Rattle.loop_file.specs.declared.notes.LoopNote.{LoopNote}
@@ -36,7 +37,7 @@ FitsAny image machine loops inputs given = (proposals : List Proposal) × Fits i
 
 -- A file is a versioned image of another one. Where that exits, so does it, with the same status and output; and it follows each run of that which goes to no address of the
 -- pieces, whatever its ending, but for a trap at a return that is inlined. Where calls are inlined, both are said of runs whose returns go back to their calls: that is each run on
--- each input, where a draft of that other file says that returns are proved. But for the steps at sites, bridges and guards, and those that fill x1 for an inlined call, its steps
+-- each input, where a draft of that other file says that returns are proved, and trusts no store. But for the steps at sites, bridges and guards, and those that fill x1 for an inlined call, its steps
 -- are of the same classes.
 pub record IsVersionedSafely (plain tried : List ℕ) : Type 0 where
   pub image : Image
@@ -53,7 +54,7 @@ pub record IsVersionedSafely (plain tried : List ℕ) : Type 0 where
   pub follows : (levels : ℕ) (input : List ℕ) (n : ℕ) → AreBytes input → StaysOutside image versioned pieces sites base levels input n →
       GoesBack image versioned pieces sites base levels input n →
       (m : ℕ) × FollowsVersioned image versioned pieces sites base (run_of image levels input n) (run_of versioned levels input m)
-  pub goes_back : (most : Option ℕ) (draft : LoopDraft) → IsDrafted plain most (Ok draft) → draft.returns ≡ true →
+  pub goes_back : (most : Option ℕ) (draft : LoopDraft) → IsDrafted plain most (Ok draft) → AreNoneTrusted draft.trust → draft.returns ≡ true →
       (levels : ℕ) (input : List ℕ) (n : ℕ) → AreBytes input → GoesBack image versioned pieces sites base levels input n
 
 -- what `split` stores is the image itself, or one of it in which code is there twice, which follows it
@@ -108,7 +109,7 @@ pub record IsFittedInOne (image machine : List ℕ) (most : Option ℕ) (inputs 
   pub is_tried : IsTriedSafely versions plain tried
   pub file : List ℕ
   pub draft : LoopDraft
-  pub is_drafted : Drafts tried most (Ok ((file, draft)))
+  pub is_drafted : Drafts tried most false (Ok ((file, draft)))
   pub closed : draft.unbounded ≡ 0
   pub drafted : IsDraftedSafely tried most file draft
   pub fitted : StoredPromise (FitsAny tried machine file inputs) (IsFittedSafely tried machine file) out
@@ -120,7 +121,8 @@ pub record IsFittedInOne (image machine : List ℕ) (most : Option ℕ) (inputs 
 -- prints; where it prints that all loops are proved as well, every run on every input keeps that file as long as its returns go back to their calls; where it prints that returns
 -- are proved, those of every run on every input do, so that then every run keeps that file, and whatever is promised of runs that keep it; else no run breaks a bound of it before
 -- it breaks one that was written in by hand, or a return address; and where it prints that nothing is irreducible, the loops are taken. With a limit of inputs, what is promised of
--- bounds is so on every input that has no more bytes, and the file says so; what is promised of returns is so on every input. Of `split`: OUT has the image itself, or one
+-- bounds is so on every input that has no more bytes, and the file says so; what is promised of returns is so on every input. Where the file trusts stores, as it
+-- says then, all this is so of runs in which none of these changes a word that is kept. Of `split`: OUT has the image itself, or one
 -- of it that follows it (`IsVersionedSafely`). Of `all`: `IsFittedInOne`. `show` and
 -- `explain` store nothing, and promise nothing beside their answers. `draw run`,
 -- `draw plan` and `jumps` store files of which their answers say all (`DrawsRuns`, `DrawsPlan`, `DraftsJumps`).
@@ -128,7 +130,7 @@ abbrev pub Promise : Command → List (List ℕ) → Files → Type 0
 Promise (Fit image machine loops out inputs) (i ∷ m ∷ l ∷ given) after = StoredPromise (FitsAny i m l given) (IsFittedSafely i m l)
     (get after out)
 Promise (FitVersions image machine loops out inputs) (i ∷ m ∷ l ∷ given) after = IsFittedWithVersions i m l given (get after out)
-Promise (Loops image out most inputs) (i ∷ given) after = StoredPromise (Drafts i most) (IsDraftedSafely i most) (get after out)
+Promise (Loops image out most trusts inputs) (i ∷ given) after = StoredPromise (Drafts i most trusts) (IsDraftedSafely i most) (get after out)
 Promise (Split image out) (i ∷ []) after = StoredPromise (SplitsImage i) (IsSplitSafely i) (get after out)
 Promise (InOne image machine out versions most inputs) (i ∷ m ∷ given) after = IsFittedInOne i m most given versions (get after out)
 Promise command files after = Unit {0}

@@ -1,11 +1,12 @@
 -- The texts that the program prints, byte for byte, in the forms of those of `scale`.
-use Rattle.std.specs.Prelude.{codes, Bool, true, false, ℕ, ◌-◌, ◌==◌, List, [], ◌∷◌, ◌++◌, flat_map, slice_get, if◌then◌else◌, Option, Some, None}
+use Rattle.std.specs.Prelude.{codes, Bool, true, false, ℕ, zero, suc, ◌-◌, ◌==◌, List, [], ◌∷◌, ◌++◌, flat_map, slice_get, if◌then◌else◌, Option, Some, None}
 use Rattle.std.specs.Fmt.{decimal}
 use Rattle.scale_base.specs.declared.endings.End.{End}
 use Rattle.scale_base.specs.declared.endings.End.TheVariants.{Exited, Trapped, OutOfSteps}
 use Rattle.scale_base.specs.declared.endings.Kept.{Kept}
 use Rattle.scale_report.specs.Texts.{address, end_words, kept_words, kind_name, number_line, numbered_lines, summary_text}
 use Rattle.loop_drafts.specs.declared.drafted.LoopDraft.{LoopDraft}
+use Rattle.loop_drafts.specs.Trusting.{trusted_stores}
 use Rattle.paced_images.specs.declared.wanted.SwitchSite.{SwitchSite}
 use Rattle.paced_images.specs.declared.proposal.Proposal.{Proposal}
 use Rattle.pace_fit.specs.declared.endings.Ending.{Ending}
@@ -97,8 +98,13 @@ abbrev pub returns_line : Bool → List ℕ
 returns_line true = codes "returns proved\n"
 returns_line false = codes "returns open\n"
 
--- a drafted loop file: how many loops it has, of how many of them the bound is proved, how many have none, how many parts of the code turn that are no loops, and whether returns
--- are proved
+-- how many stores are trusted, where some are
+abbrev pub trusted_line : ℕ → List ℕ
+trusted_line zero = []
+trusted_line (suc n) = number_line (codes "trusted stores ") (suc n)
+
+-- a drafted loop file: how many loops it has, of how many of them the bound is proved, how many have none, how many parts of the code turn that are no loops, whether returns
+-- are proved, and how many stores are trusted for that, where some are
 abbrev pub drafted_text : LoopDraft → List ℕ
 drafted_text d =
     number_line (codes "loops ") d.loops
@@ -106,6 +112,7 @@ drafted_text d =
     ++ number_line (codes "open ") d.unbounded
     ++ number_line (codes "irreducible ") d.aside
     ++ returns_line d.returns
+    ++ trusted_line (trusted_stores d.trust)
 
 -- a split image: how many parts of the code turned and were entered at several places, how many do in it, and how many instructions were added
 abbrev pub split_text : SplitImage → List ℕ

@@ -31,7 +31,7 @@ abbrev pub command_view : Job → Command
 command_view (job.Fit fit) = fit_view fit
 command_view (job.FitVersions fit) = versions_view fit
 command_view (job.Show program) = Show program.image.now program.machine.now program.loops.now
-command_view (job.Loops loops) = Loops loops.image.now loops.out.now loops.limit.most (texts loops.inputs.names.now)
+command_view (job.Loops loops) = Loops loops.image.now loops.out.now loops.limit.most loops.trusts (texts loops.inputs.names.now)
 command_view (job.Explain program) = Explain program.image.now program.machine.now program.loops.now
 command_view (job.DrawRun draw) = DrawRun draw.machine.now draw.out.now (texts draw.names.now)
 command_view (job.DrawPlan draw) = DrawPlan draw.program.image.now draw.program.machine.now draw.program.loops.now draw.out.now

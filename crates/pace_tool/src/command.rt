@@ -27,11 +27,13 @@ pub struct Fit<'a> {
     pub inputs: InputNames<'a>,
 }
 
-/// The command `loops`, with the names of its files: it stores a draft of the loop file of a program, for inputs within a limit.
+/// The command `loops`, with the names of its files: it stores a draft of the loop file of a program, for inputs within a limit. It may trust stores of which nothing
+/// is known.
 #[derive(Clone, Copy)]
 pub struct Loops<'a> {
     pub image: &'a str,
     pub out: &'a str,
+    pub trusts: bool,
     pub inputs: InputNames<'a>,
     pub limit: InputLimit,
 }

@@ -116,7 +116,7 @@ fn drafted_reply<P: Progress>(
     draft: &LoopDraft,
     progress: &mut P,
 ) -> Result<Reply, NoMemory>
-    requires { Drafts fitting.now.image.now fitting.now.goal.now.most (Ok (draft_view draft.now)) }
+    requires { Drafts fitting.now.image.now fitting.now.goal.now.most false (Ok (draft_view draft.now)) }
     ensures { IfOk result (λ reply. MakesDrafted fitting.now.goal.now.machine.now fitting.now.goal.now.out.now
         (files_view fitting.now.goal.now.inputs.items.now) fitting.now.image.now (string_bytes text) (Ok (draft_view draft.now))
         (reply_view reply)) }
@@ -143,6 +143,7 @@ fn tried_reply<P: Progress>(
     let inputs = DraftInputs {
         items: goal.inputs.items,
         most: goal.most,
+        trusts: false,
     };
     match draft_loops(alloc, image, &inputs, progress) {
         Ok(draft) => {

@@ -24,7 +24,7 @@ fn drafted<P: Progress>(
     inputs: &DraftInputs<'_>,
     progress: &mut P,
 ) -> Result<(Vec<u8>, String), Stop>
-    ensures { AnswersBy written_view result (FileOf (Drafts image.now inputs.now.most) texts.drafted_text) }
+    ensures { AnswersBy written_view result (FileOf (Drafts image.now inputs.now.most inputs.now.trusts) texts.drafted_text) }
 {
     let draft = draft_loops(alloc, image, inputs, progress)?;
     let file = printed_text(alloc, &draft.pieces)?;
@@ -41,7 +41,7 @@ pub fn loops_reply<P: Progress>(
     progress: &mut P,
 ) -> Result<Reply, NoMemory>
     ensures bytes { AreBytes image.now }
-    ensures told { IfOk result (λ reply. Tells (Drafts image.now inputs.now.most) (stored_answer texts.drafted_text out.now)
+    ensures told { IfOk result (λ reply. Tells (Drafts image.now inputs.now.most inputs.now.trusts) (stored_answer texts.drafted_text out.now)
         (reply_view reply)) }
 {
     stored_reply(alloc, out, drafted(alloc, image, inputs, progress))

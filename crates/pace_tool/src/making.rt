@@ -43,6 +43,7 @@ fn made_of<P: Progress>(
             let inputs = DraftInputs {
                 items: &files[1..],
                 most: loops.limit.most,
+                trusts: loops.trusts,
             };
             loops_reply(alloc, loops.out, &files[0], &inputs, progress)
         }

@@ -2,7 +2,7 @@
 
 ghost use Rattle.std.specs.Prelude.{◌≡◌, ◌+◌, ◌++◌, ◌≤◌, length, IfOk, OnOk, Some, string_bytes};
 ghost use Rattle.scale_report.specs.Texts.{number_line, numbered_lines};
-ghost use Rattle.pace_tool.specs.Texts.{drafted_text, fitted_text, form_name, left_line, left_line_if, proposal_lines, returns_line, rewrite_line, switch_line, switch_lines, switches_text, tally_line, tally_lines, guard_words, limit_line, split_text, version_text};
+ghost use Rattle.pace_tool.specs.Texts.{drafted_text, fitted_text, form_name, left_line, left_line_if, proposal_lines, returns_line, rewrite_line, switch_line, switch_lines, switches_text, trusted_line, tally_line, tally_lines, guard_words, limit_line, split_text, version_text};
 
 use loop_drafts::LoopDraft;
 use pace_fit::{Ending, Fitted, is_counted};
@@ -242,8 +242,18 @@ fn push_returns(text: &mut String, returns: bool) -> Result<(), AllocError>
     }
 }
 
+// Adds the line that tells how many stores are trusted, where some are.
+fn push_trusted(text: &mut String, trusted: usize) -> Result<(), AllocError>
+    ensures { OnOk result (string_bytes text.new ≡ string_bytes text.old ++ trusted_line trusted) }
+{
+    if trusted == 0 {
+        return Ok(());
+    }
+    push_size(text, "trusted stores ", trusted)
+}
+
 /// What is told of a draft: how many loops it has, of how many of them the bound is proved, how many have no bound, how many parts of the code turn that are no
-/// loops, and whether returns are proved to go back.
+/// loops, whether returns are proved to go back, and how many stores are trusted, where some are.
 pub fn drafted_text(alloc: Global, draft: &LoopDraft) -> Result<String, NoMemory>
     ensures { IfOk result (λ text. string_bytes text ≡ drafted_text draft.now) }
 {
@@ -253,6 +263,7 @@ pub fn drafted_text(alloc: Global, draft: &LoopDraft) -> Result<String, NoMemory
     push_size(&mut text, "open ", draft.unbounded)?;
     push_size(&mut text, "irreducible ", draft.aside)?;
     push_returns(&mut text, draft.returns)?;
+    push_trusted(&mut text, draft.trust.count())?;
     Ok(text)
 }
 

@@ -104,7 +104,15 @@ fn loops_line<'a>(alloc: Global) -> Result<CommandLine<'a>, AllocError> {
         alloc,
         "Up to 64 inputs: comments in the file tell how often loops turn on them",
     ))?
-    .arg(input_bytes(alloc))
+    .arg(input_bytes(alloc))?
+    .arg(
+        Arg::new(alloc, "trust-stores")
+            .long("trust-stores")
+            .action(ArgAction::SetTrue)
+            .help(
+                "Takes it that stores of which nothing is known change no word of the stack that is kept, where that bounds more loops: the file names both",
+            ),
+    )
 }
 
 fn explain_line<'a>(alloc: Global) -> Result<CommandLine<'a>, AllocError> {
@@ -296,6 +304,7 @@ fn loops_of<'m>(given: &'m ArgMatches<'_>) -> Option<Loops<'m>> {
     Some(Loops {
         image: given.get_str("IMAGE")?,
         out: given.get_str("OUT")?,
+        trusts: given.get_flag("trust-stores"),
         inputs: inputs_of(given)?,
         limit: limit_of(given)?,
     })

@@ -5,6 +5,7 @@ use Rattle.scale_base.specs.declared.limits.TheConstants.{FILE_LIMIT, IMAGE_LIMI
 use Rattle.gain_tuner.specs.Spending.{counts}
 use Rattle.loop_drafts.specs.declared.drafted.LoopDraft.{LoopDraft}
 use Rattle.loop_drafts.specs.Drafted.{IsDrafted}
+use Rattle.loop_drafts.specs.Trusting.{AreNoneTrusted}
 use Rattle.loop_drafts.specs.Pieces.{printed}
 use Rattle.paced_images.specs.declared.proposal.Proposal.{Proposal}
 use Rattle.pace_fit.specs.declared.fitting.Fitted.{Fitted}
@@ -15,10 +16,11 @@ use Rattle.version_loops.specs.VersionFile.{IsVersionFile}
 use Rattle.version_fits.specs.declared.choosing.Best.{Best}
 use Rattle.version_fits.specs.declared.choosing.ChosenVersion.{ChosenVersion}
 
--- a draft of an image's loop file, without open loops
+-- a draft of an image's loop file that trusts no store, without open loops
 pub record IsDraftedFile (image : List ℕ) (most : Option ℕ) (file : List ℕ) : Type 0 where
   pub draft : LoopDraft
   pub drafted : IsDrafted image most (Ok draft)
+  pub untrusting : AreNoneTrusted draft.trust
   pub closed : draft.unbounded ≡ 0
   pub is_printed : file ≡ printed draft.pieces.items
 

@@ -27,6 +27,7 @@ pub fn drafted_file<P: Progress>(
     let inputs = DraftInputs {
         items: goal.inputs,
         most: goal.most,
+        trusts: false,
     };
     match draft_loops(alloc, image, &inputs, progress) {
         Ok(draft) => {

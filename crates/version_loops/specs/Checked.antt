@@ -10,6 +10,7 @@ use Rattle.loop_file.specs.Loops.{read_loops}
 use Rattle.loop_drafts.specs.declared.drafted.LoopDraft.{LoopDraft}
 use Rattle.loop_drafts.specs.Bounds.{most_turns}
 use Rattle.loop_drafts.specs.Drafted.{filled_most, IsDrafted}
+use Rattle.loop_drafts.specs.Trusting.{AreNoneTrusted}
 use Rattle.copy_bounds.specs.Copies.{KeepsOpenCalls}
 use Rattle.copy_bounds.specs.Meanings.{meaning}
 use Rattle.copy_checks.specs.declared.covering.CopyReason.{CopyReason}
@@ -48,10 +49,11 @@ pub record AreNotesOf (file loops : List ℕ) (notes : List LoopNote) : Type 0 w
   pub is_read : image_of file ≡ Ok image
   pub notes_are : read_loops image loops ≡ Ok notes
 
--- the notes of a draft of a file, with the greatest bound for each loop that has none
+-- the notes of a draft of a file that trusts no store, with the greatest bound for each loop that has none
 pub record AreNotesDrafted (file : List ℕ) (image : Image) (notes : List LoopNote) : Type 0 where
   pub draft : LoopDraft
   pub drafted : IsDrafted file None (Ok draft)
+  pub untrusting : AreNoneTrusted draft.trust
   pub notes_are : read_loops image (filled_most draft.pieces.items) ≡ Ok notes
 
 -- a loop file of a version with such a graph whose notes are right

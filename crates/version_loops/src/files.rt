@@ -6,6 +6,7 @@ ghost use Rattle.code_text.specs.Text.{text_of};
 ghost use Rattle.flow_graph.specs.FlowGraph.{IsGraphOf};
 ghost use Rattle.loop_file.specs.Loops.{read_loops};
 ghost use Rattle.loop_drafts.specs.Drafted.{filled_most, IsDrafted};
+ghost use Rattle.loop_drafts.specs.Trusting.{AreNoneTrusted};
 ghost use Rattle.loop_drafts.specs.Kept.{AreBytes};
 ghost use Rattle.copy_bounds.specs.Meanings.{meaning};
 ghost use Rattle.copy_checks.specs.Checked.{AreMeant};
@@ -64,11 +65,13 @@ fn draft_of<P: Progress>(
     version: &Version,
     progress: &mut P,
 ) -> Result<LoopDraft, Stop>
-    ensures { IfOk result (λ draft. IsDrafted version.now.file.items None (Ok draft)) }
+    ensures drafted { IfOk result (λ draft. IsDrafted version.now.file.items None (Ok draft)) }
+    ensures untrusting { IfOk result (λ draft. AreNoneTrusted draft.trust) }
 {
     let inputs = DraftInputs {
         items: &[],
         most: None,
+        trusts: false,
     };
     draft_loops(alloc, &version.file, &inputs, progress)
 }

@@ -1,5 +1,6 @@
-use Rattle.std.proofs.Common.{◌∙◌}
+use Rattle.std.proofs.Common.{◌∙◌, subst, sym}
 use Rattle.std.proofs.lemmas.List.Elements.{All-push, All-same}
+use Rattle.loop_drafts.specs.Trusting.{AreNoneTrusted}
 use Rattle.loop_drafts.specs.Bounds.{IsOpen, NeedNotTurn}
 use Rattle.loop_drafts.proofs.bounds.open_all.Goals as goal
 
@@ -10,4 +11,5 @@ loop-k-preserved c =
       All-same IsOpen _ _ c.in_ok-push.ensures.notes (All-push IsOpen items sought.note c.loop-k.invariant.0 c.in_ok-left_open.ensures.bounds),
       All-same NeedNotTurn _ _ c.in_ok-push.ensures.notes (All-push NeedNotTurn items sought.note c.loop-k.invariant.1 c.in_ok-left_open.ensures.least),
       c.in_ok-push.ensures.returns ∙ c.loop-k.invariant.2,
+      subst AreNoneTrusted (sym c.in_ok-push.ensures.trust) c.loop-k.invariant.3,
     )

@@ -15,7 +15,7 @@ pub returns-in_err-draft : goal.returns-in_err-draft
 returns-in_err-draft g c =
     let p = err_from_is_err_and c.from_residual.result c.from_residual.ensures.1 in
     rw (p.1, p.2) (stopped (λ (x : LoopDraft). x) written_view c.in_err-draft.field-0.0 (IsDrafted c.args.image.now c.args.inputs.now.most)
-    (FileOf (Drafts c.args.image.now c.args.inputs.now.most) drafted_text) c.in_err-draft.ensures (λ r h. h))
+    (FileOf (Drafts c.args.image.now c.args.inputs.now.most c.args.inputs.now.trusts) drafted_text) c.in_err-draft.ensures.drafted (λ r h. h))
 
 pub returns : goal.returns
-returns g c = (c.in_ok-draft.draft, record { drafted = c.in_ok-draft.ensures; is_printed = ap (λ (v : Vec ℕ Global). v.items) c.into_bytes.ensures.value ∙ c.in_ok-file.ensures ∙ ap printed c.deref.ensures.value }, c.in_ok-text.ensures)
+returns g c = (c.in_ok-draft.draft, record { drafted = c.in_ok-draft.ensures.drafted; allowed = c.in_ok-draft.ensures.allowed; is_printed = ap (λ (v : Vec ℕ Global). v.items) c.into_bytes.ensures.value ∙ c.in_ok-file.ensures ∙ ap printed c.deref.ensures.value }, c.in_ok-text.ensures)

@@ -10,4 +10,4 @@ returns-clause-bytes g c = λ k d lt. let fit = c.type_inv.image k in let same =
 
 pub returns-clause-told : goal.returns-clause-told
 returns-clause-told g c =
-    file_told (Drafts c.args.image.now c.args.inputs.now.most) drafted_text c.args.out.now c.drafted.result c.stored_reply.result c.drafted.ensures c.stored_reply.ensures
+    file_told (Drafts c.args.image.now c.args.inputs.now.most c.args.inputs.now.trusts) drafted_text c.args.out.now c.drafted.result c.stored_reply.result c.drafted.ensures c.stored_reply.ensures

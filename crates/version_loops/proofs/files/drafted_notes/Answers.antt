@@ -9,4 +9,4 @@ pub returns : goal.returns
 returns g c =
     let version = c.args.version.now in
     ok_too c.filled_notes.result (λ notes. read_loops c.args.view.now (filled_most c.in_ok-draft.draft.pieces.items) ≡ Ok notes) (AreNotesDrafted version.file.items c.args.view.now) c.filled_notes.ensures
-    (λ notes e. record { draft = c.in_ok-draft.draft; drafted = c.in_ok-draft.ensures; notes_are = e })
+    (λ notes e. record { draft = c.in_ok-draft.draft; drafted = c.in_ok-draft.ensures.drafted; untrusting = c.in_ok-draft.ensures.untrusting; notes_are = e })

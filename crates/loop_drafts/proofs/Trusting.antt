@@ -1,0 +1,40 @@
+-- Where no store is trusted, nothing has to be so of a run.
+use Rattle.std.proofs.Common.{◌≡◌, ℕ, ◌+◌, ◌≤◌, Bool, true, false, List, [], ◌∷◌, refl, sym, ◌∙◌, arith}
+use Rattle.std.specs.Prelude.{count_by, nat_eq, if◌then◌else◌}
+use Rattle.std.proofs.lemmas.List.Sums.{sum_by-cons}
+use Rattle.scale_base.specs.Image.{Image}
+use Rattle.scale_base.specs.Run.{setting_of, start_of}
+use Rattle.value_checks.specs.Tables.{beside}
+use Rattle.stack_laws.proofs.Laws.{certain_tidy, tidy_up_to}
+use Rattle.loop_drafts.specs.declared.trusting.Trust.{Trust}
+use Rattle.loop_drafts.specs.Trusting.{IsTrustKept, NothingIsTrusted}
+
+first_none : (x : Bool) (others : ℕ) → (if x then 1 else 0) + others ≡ 0 → x ≡ false
+first_none true others none = absurd (omega arith)
+first_none false others none = refl
+
+others_none : (x : Bool) (others : ℕ) → (if x then 1 else 0) + others ≡ 0 → others ≡ 0
+others_none true others none = absurd (omega arith)
+others_none false others none = omega arith
+
+either_none : (b x rest : Bool) → x ≡ false → rest ≡ false → (if b then x else rest) ≡ false
+either_none true x rest first others = first
+either_none false x rest first others = others
+
+-- where none of these is so, none is beside an address
+none_beside : (stores : List Bool) (nodes : List ℕ) (a : ℕ) → count_by (λ (is : Bool). is) stores ≡ 0 → beside false nodes stores a ≡ false
+none_beside stores [] a none = refl
+none_beside [] (u ∷ us) a none = refl
+none_beside (x ∷ xs) (u ∷ us) a none =
+    let others = count_by (λ (is : Bool). is) xs in
+    let here : (if x then 1 else 0) + others ≡ 0 = sym (sum_by-cons (λ (is : Bool). if is then 1 else 0) x xs) ∙ none in
+    either_none (nat_eq u a) x (beside false us xs a) (first_none x others here) (none_beside xs us a (others_none x others here))
+
+pub nothing_trusted : NothingIsTrusted
+nothing_trusted original trust levels input n none code v w reached of =
+    certain_tidy v w (setting_of original levels input) (start_of original levels) (λ a. of.stores a ∙ none_beside trust.stores.items code.nodes a none) n
+
+-- what is so of a run is so of its first steps
+pub trust_before : (original : Image) (trust : Trust) (levels : ℕ) (input : List ℕ) (m n : ℕ) → m ≤ n → IsTrustKept original trust levels input n → IsTrustKept original trust levels input m
+trust_before original trust levels input m n le kept code v w reached of =
+    tidy_up_to v w (setting_of original levels input) (start_of original levels) n m le (kept code v w reached of)

@@ -1,0 +1,5 @@
+use Rattle.loop_drafts.proofs.Trusting.{nothing_trusted}
+use Rattle.loop_drafts.proofs.nothing_is_trusted.Goals as goal
+
+pub returns : goal.returns
+returns c = nothing_trusted
