@@ -27,7 +27,7 @@ use Rattle.stack_laws.specs.Areas.{IsLaidOut}
 use Rattle.stack_laws.specs.Laws.{StackValuesHold}
 use Rattle.stack_laws.specs.Stacks.{Stacks, view_of, IsStackInvariant, AreTold}
 use Rattle.stack_laws.specs.Tidy.{IsTidy}
-use Rattle.stack_laws.proofs.Laws.{certain_tidy, tidy_before, bytes_kept, image_laid, image_told}
+use Rattle.stack_laws.proofs.Laws.{tidy_before, bytes_kept, image_laid, image_told}
 use Rattle.jump_laws.specs.declared.reads.TableRead.{TableRead}
 use Rattle.jump_laws.specs.Reads.{AreReads, IsRead}
 use Rattle.jump_laws.specs.Laws.{AreUnwritten, ImageWordsHold, TableWordsHold}
@@ -163,7 +163,6 @@ words_hold told_along t env s code v w known start reached inv reads unwritten l
 
 pub image_words_hold : StackValuesHold → ImageWordsHold
 unfolding run_of
-image_words_hold told_along file image levels input code v w known read small_file small_input ana reads unwritten n rs returns on =
+image_words_hold told_along file image levels input code v w known read small_file small_input ana reads unwritten n tidy rs returns on =
     words_hold told_along (text_of image) (setting_of image levels input) (start_of image levels) code v w known (image_starts file image levels input read) ana.reached ana.invariant reads unwritten
-    (image_laid image code v w ana) (image_told image levels code v w ana) (loaded_small file image read small_file) small_input n
-    (certain_tidy v w (setting_of image levels input) (start_of image levels) ana.certain n) rs returns on
+    (image_laid image code v w ana) (image_told image levels code v w ana) (loaded_small file image read small_file) small_input n tidy rs returns on

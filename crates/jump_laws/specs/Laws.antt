@@ -3,7 +3,7 @@ use Rattle.std.specs.Prelude.{◌≡◌, ℕ, ◌+◌, ◌*◌, ◌<◌, false, 
 use Rattle.scale_base.specs.Image.{Image, image_of, loaded_byte}
 use Rattle.scale_base.specs.Layout.{Layout, layout_of, may_write}
 use Rattle.scale_base.specs.State.{Setting, State, word_at}
-use Rattle.scale_base.specs.Run.{GoesOn, run, run_of}
+use Rattle.scale_base.specs.Run.{GoesOn, run, run_of, setting_of, start_of}
 use Rattle.cost_theory.specs.Reached.{Code}
 use Rattle.code_text.specs.Text.{Text, text_of}
 use Rattle.code_text.specs.TextGraph.{text_graph, IsReachedCode}
@@ -42,11 +42,12 @@ TableWordsHold = (t : Text) (env : Setting) (s : State) (code : Code) (v : Value
     (n : ℕ) → IsTidy v w env s n → (rs : List ℕ) → returns_so (run env s n).steps ≡ Some rs → (run env s n).standing ≡ GoesOn →
     IsRead s.bytes (known (run env s n).state.pc) (run env s n).state.regs
 
--- The same over an image, on each input, of the words that it loads.
+-- The same over an image, on each input, as long as its run is tidy, of the words that it loads.
 abbrev pub ImageWordsHold : Type 0
 ImageWordsHold = (file : List ℕ) (image : Image) (levels : ℕ) (input : List ℕ) (code : Code) (v : Values) (w : Stacks)
     (known : ℕ → Option TableRead) → image_of file ≡ Ok image →
     All (λ x. x < 256) file → All (λ x. x < 256) input → IsStackAnalysed image code v w →
     AreReads (text_of image) (text_graph (text_of image) code) v known → AreUnwritten (layout_of image) known →
-    (n : ℕ) (rs : List ℕ) → returns_so (run_of image levels input n).steps ≡ Some rs → (run_of image levels input n).standing ≡ GoesOn →
+    (n : ℕ) → IsTidy v w (setting_of image levels input) (start_of image levels) n → (rs : List ℕ) →
+    returns_so (run_of image levels input n).steps ≡ Some rs → (run_of image levels input n).standing ≡ GoesOn →
     IsRead (loaded_byte image) (known (run_of image levels input n).state.pc) (run_of image levels input n).state.regs

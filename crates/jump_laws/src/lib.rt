@@ -14,8 +14,8 @@ pub fn fixed_words_stay()
     ensures { FixedWordsStay }
 {}
 
-/// What the tables say of words of tables in registers is so all along a tidy run whose returns go back to their calls, and so along each run of an
-/// image in whose tables nothing is doubtful.
+/// What the tables say of words of tables in registers is so all along a tidy run whose returns go back to their calls, and so along such a run of an
+/// image.
 pub fn table_words_hold()
     ensures table { TableWordsHold }
     ensures image { ImageWordsHold }

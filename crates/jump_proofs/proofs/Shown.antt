@@ -14,6 +14,7 @@ use Rattle.graph_runs.proofs.Laws.{image_starts}
 use Rattle.bound_laws.proofs.Laws.{loaded_small}
 use Rattle.stack_laws.specs.Laws.{IsStackAnalysed}
 use Rattle.stack_laws.specs.Returning.{ComesBack}
+use Rattle.stack_laws.specs.Tidy.{IsCertain}
 use Rattle.stack_laws.proofs.Laws.{certain_tidy, image_laid, image_told, runs_come_back}
 use Rattle.stack_tables.proofs.Laws.{address_is}
 use Rattle.stack_tables.specs.Tables.{address, claim_stacks, claim_text, claim_values}
@@ -73,28 +74,29 @@ register_there original note r x e same = ap (λ (o : Option ℕ). unwrap_or o 0
 
 -- ---- along runs
 
-pub shown_proved : ImageWordsHold → (original : Image) (c : ReadClaim) → IsReadClaim c → IsStackAnalysed c.claim.now.view.now c.claim.now.graph.now.code (claim_values c.claim.now) (claim_stacks c.claim.now) →
+pub shown_proved : ImageWordsHold → (original : Image) (c : ReadClaim) → IsReadClaim c → IsStackAnalysed c.claim.now.view.now c.claim.now.graph.now.code (claim_values c.claim.now) (claim_stacks c.claim.now) → IsCertain (claim_stacks c.claim.now) →
     AreReads (text_of c.claim.now.view.now) (text_graph (text_of c.claim.now.view.now) c.claim.now.graph.now.code) (claim_values c.claim.now) (known_beside c.claim.now.graph.now.code.nodes c.reads.now) →
     AreUnwritten (layout_of c.claim.now.view.now) (known_beside c.claim.now.graph.now.code.nodes c.reads.now) → (notes : List JumpNote) (flags : List Bool) → AreShownBy original c notes flags → AreBytes c.claim.now.view.now.file →
     AreJumpsProved original c.claim.now.view.now notes flags
-shown_proved words original c is ana reads fixed notes flags shown small k note at on levels input n rs small_input returns goes there =
+shown_proved words original c is ana certain reads fixed notes flags shown small k note at on levels input n rs small_input returns goes there =
     let lowered : Image = c.claim.now.view.now in
     let known : ℕ → Option TableRead = known_beside c.claim.now.graph.now.code.nodes c.reads.now in
     let regs : List ℕ = (run_of lowered levels input n).state.regs in
     let s : IsShownBy original c note = shown k note at on in
     let held : IsRead (loaded_byte lowered) (known (run_of lowered levels input n).state.pc) regs =
-    words lowered.file lowered levels input c.claim.now.graph.now.code (claim_values c.claim.now) (claim_stacks c.claim.now) known is.claim.image small small_input ana reads fixed n rs returns goes in
+    words lowered.file lowered levels input c.claim.now.graph.now.code (claim_values c.claim.now) (claim_stacks c.claim.now) known is.claim.image small small_input ana reads fixed n
+    (certain_tidy (claim_values c.claim.now) (claim_stacks c.claim.now) (setting_of lowered levels input) (start_of lowered levels) certain n) rs returns goes in
     let entry : IsEntryOf (loaded_byte lowered) s.read.table (reg regs s.read.register) = subst (λ (o : Option TableRead). IsRead (loaded_byte lowered) o regs) (ap known there ∙ s.known) held in
     subst (λ (r : ℕ). Contains note.targets (reg regs r)) (sym s.register_is) (entry_listed lowered s.read.table note.targets (reg regs s.read.register) is.claim.image s.table entry)
 
-pub runs_back : (c : ReadClaim) → IsReadClaim c → IsStackAnalysed c.claim.now.view.now c.claim.now.graph.now.code (claim_values c.claim.now) (claim_stacks c.claim.now) →
+pub runs_back : (c : ReadClaim) → IsReadClaim c → IsStackAnalysed c.claim.now.view.now c.claim.now.graph.now.code (claim_values c.claim.now) (claim_stacks c.claim.now) → IsCertain (claim_stacks c.claim.now) →
     ComesBack (claim_text c.claim.now) (text_graph (claim_text c.claim.now) c.claim.now.graph.now.code) (claim_values c.claim.now) (claim_stacks c.claim.now) → AreBytes c.claim.now.view.now.file → RunsGoBack c.claim.now.view.now
 unfolding run_of
-runs_back c is ana comes small levels input n small_input =
+runs_back c is ana certain comes small levels input n small_input =
     let image : Image = c.claim.now.view.now in
     runs_come_back (text_of image) (setting_of image levels input) (start_of image levels) c.claim.now.graph.now.code (claim_values c.claim.now) (claim_stacks c.claim.now) (image_starts image.file image levels input is.claim.image) ana.reached ana.invariant comes
     (image_laid image c.claim.now.graph.now.code (claim_values c.claim.now) (claim_stacks c.claim.now) ana) (image_told image levels c.claim.now.graph.now.code (claim_values c.claim.now) (claim_stacks c.claim.now) ana) (loaded_small image.file image is.claim.image small) small_input n
-    (certain_tidy (claim_values c.claim.now) (claim_stacks c.claim.now) (setting_of image levels input) (start_of image levels) ana.certain n)
+    (certain_tidy (claim_values c.claim.now) (claim_stacks c.claim.now) (setting_of image levels input) (start_of image levels) certain n)
 
 -- nothing is proved of notes without a flag
 pub none_proved : (original lowered : Image) (notes : List JumpNote) (proof : JumpProof) → proof.jumps.items ≡ [] → proof.returns ≡ false → IsProofOf original lowered notes proof

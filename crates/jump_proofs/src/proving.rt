@@ -23,7 +23,7 @@ use loop_counters::heights_of;
 use scale_base::{NoMemory, Stop};
 use shown_bounds::comes_back;
 use stack_checks::is_stack_analysed;
-use stack_tables::{StackClaim, is_stack_sized};
+use stack_tables::{StackClaim, is_certain, is_stack_sized};
 use std::alloc::Global;
 use value_analysis::analyse;
 use value_checks::is_sized;
@@ -86,7 +86,7 @@ fn nothing(
     JumpProof::none(alloc)
 }
 
-// What is proved by a claim that the code confirms.
+// What is proved by a claim that the code confirms, in whose tables nothing is doubtful.
 fn proof_by(
     alloc: Global,
     original: &ImageView<'_>,
@@ -103,6 +103,9 @@ fn proof_by(
         return Ok(nothing(alloc, original, claim.claim.view, notes));
     }
     if !is_stack_analysed(claim.claim) {
+        return Ok(nothing(alloc, original, claim.claim.view, notes));
+    }
+    if !is_certain(claim.claim) {
         return Ok(nothing(alloc, original, claim.claim.view, notes));
     }
     if !is_read_so(claim) {

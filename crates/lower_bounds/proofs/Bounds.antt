@@ -19,8 +19,8 @@ use Rattle.bound_laws.specs.Values.{Values, AreBytes}
 use Rattle.bound_laws.proofs.Laws.{kept_too, not_broken, kept_before, loaded_small}
 use Rattle.stack_laws.specs.Areas.{IsLaidOut}
 use Rattle.stack_laws.specs.Stacks.{Stacks, view_of, IsStackInvariant, AreTold}
-use Rattle.stack_laws.specs.Tidy.{IsCertain}
-use Rattle.stack_laws.proofs.Laws.{certain_tidy, image_laid, image_told}
+use Rattle.stack_laws.specs.Tidy.{IsTidy}
+use Rattle.stack_laws.proofs.Laws.{tidy_before, tidy_up_to, image_laid, image_told}
 use Rattle.lower_bounds.specs.LowerBounds.{IsLowerShown}
 use Rattle.lower_bounds.specs.Laws.{LowerBoundsAreKept}
 use Rattle.lower_bounds.proofs.Counts.{left_late}
@@ -33,29 +33,29 @@ same_leaving l trips Call pc next k = refl
 same_leaving l trips Return pc next k = refl
 
 module _ (t : Text) (env : Setting) (s : State) (code : Code) (v : Values) (w : Stacks) (l : Loops) (start : IsStartOver t env s) (reached : IsReachedCode t code) (inv : IsStackInvariant t (text_graph t code) v w)
-    (laid : IsLaidOut env.layout w.areas w.fixed) (starts : AreTold v w s.pc (view_of w s.regs s.regs s.bytes)) (bytes : AreBytes s.bytes) (input : All (λ x. x < 256) env.input) (certain : IsCertain w) where
-  pub kept_by_lower : (trips : ℕ → ℕ) → ((k : ℕ) → k < l.loops → IsLowerShown t (text_graph t code) v w l k ⊎ (l.least_trips k ≤ trips k)) → (n : ℕ) (d : Carried) → kept_at env s (with_trips l trips) n ≡ Some d → kept_at env s l n ≡ Some d
-  kept_by_lower trips has n d kept = kept_by_steps l (with_trips l trips) (λ c x. refl) env s
-      (λ n c d x at.
+    (laid : IsLaidOut env.layout w.areas w.fixed) (starts : AreTold v w s.pc (view_of w s.regs s.regs s.bytes)) (bytes : AreBytes s.bytes) (input : All (λ x. x < 256) env.input) where
+  pub kept_by_lower : (trips : ℕ → ℕ) → ((k : ℕ) → k < l.loops → IsLowerShown t (text_graph t code) v w l k ⊎ (l.least_trips k ≤ trips k)) → (n : ℕ) → IsTidy v w env s n → (d : Carried) → kept_at env s (with_trips l trips) n ≡ Some d → kept_at env s l n ≡ Some d
+  kept_by_lower trips has n tidy d kept = kept_by_steps l (with_trips l trips) (λ c x. refl) env s (IsTidy v w env s) (tidy_before v w env s)
+      (λ n c d x tidy at.
       let p = kept_parts (with_trips l trips) (counts_after l c x) x (returns_after c.returns x) d at.more in
       not_broken l d.counts x
       (λ j jl. subst (λ f. f j ≤ l.bound j) p.1 (p.2 j jl))
       (λ j jl left. ⊎_elim
-      (λ (b : IsLowerShown t (text_graph t code) v w l j). left_late t env s code v w l j (l.least_trips j) b.certificate start reached inv laid starts bytes input b.is n (certain_tidy v w env s certain (suc n)) d x at.goes at.went
+      (λ (b : IsLowerShown t (text_graph t code) v w l j). left_late t env s code v w l j (l.least_trips j) b.certificate start reached inv laid starts bytes input b.is n tidy d x at.goes at.went
       (kept_too (unasked l) (with_trips l trips) (λ c x. refl) env s (λ n c d x whole k. refl) (suc n) d at.behind) left)
-      (λ (few : l.least_trips j ≤ trips j). let q : trips j ≤ d.counts j = subst (λ f. trips j ≤ f j) p.1 (p.3 j jl (same_leaving l trips x.moved x.pc x.next j ∙ left)) in let r : l.least_trips j ≤ d.counts j = omega arith in r) (has j jl))) n d kept
+      (λ (few : l.least_trips j ≤ trips j). let q : trips j ≤ d.counts j = subst (λ f. trips j ≤ f j) p.1 (p.3 j jl (same_leaving l trips x.moved x.pc x.next j ∙ left)) in let r : l.least_trips j ≤ d.counts j = omega arith in r) (has j jl))) n tidy d kept
 
 some_same : (x y : Carried) → Some x ≡ Some y → x ≡ y
 some_same x y e = let r : x ≡ y = cc in r
 
 pub lower_kept : LowerBoundsAreKept
-lower_kept file image levels input code v w l trips read small_file small_input ana which n kept =
+lower_kept file image levels input code v w l trips read small_file small_input ana which n tidy kept =
     record {
       carried = kept.carried;
-      kept = by n kept.carried kept.kept;
+      kept = by n (omega arith) kept.carried kept.kept;
       shallow = λ m c le h.
           let b = kept_before env s (with_trips l trips) n m kept.carried le kept.kept in
-          let same : b.0 ≡ c = some_same b.0 c (sym (by m b.0 b.1) ∙ h) in
+          let same : b.0 ≡ c = some_same b.0 c (sym (by m le b.0 b.1) ∙ h) in
           subst (λ d. length d.returns ≤ most_returns) same (kept.shallow m b.0 le b.1);
     }
   where
@@ -65,5 +65,5 @@ lower_kept file image levels input code v w l trips read small_file small_input 
     s : State
     s = start_of image levels
 
-    by : (m : ℕ) (d : Carried) → kept_at env s (with_trips l trips) m ≡ Some d → kept_at env s l m ≡ Some d
-    by m d h = kept_by_lower (text_of image) env s code v w l (image_starts file image levels input read) ana.reached ana.invariant (image_laid image code v w ana) (image_told image levels code v w ana) (loaded_small file image read small_file) small_input ana.certain trips which m d h
+    by : (m : ℕ) → m ≤ n → (d : Carried) → kept_at env s (with_trips l trips) m ≡ Some d → kept_at env s l m ≡ Some d
+    by m le d h = kept_by_lower (text_of image) env s code v w l (image_starts file image levels input read) ana.reached ana.invariant (image_laid image code v w ana) (image_told image levels code v w ana) (loaded_small file image read small_file) small_input trips which m (tidy_up_to v w env s n m le tidy) d h

@@ -5,7 +5,7 @@ use Rattle.scale_base.specs.declared.stepping.StepEnd.TheVariants.{Went}
 use Rattle.scale_base.specs.State.{Setting, State}
 use Rattle.scale_base.specs.Step.{step}
 use Rattle.scale_base.specs.Image.{Image, image_of}
-use Rattle.scale_base.specs.Run.{GoesOn, run}
+use Rattle.scale_base.specs.Run.{GoesOn, run, setting_of, start_of}
 use Rattle.cost_theory.specs.Graph.{Loops, with_trips}
 use Rattle.cost_theory.specs.Reached.{Code}
 use Rattle.code_text.specs.Text.{Text, text_of}
@@ -33,11 +33,12 @@ LowerCertificatesBoundTurns = (t : Text) (env : Setting) (s : State) (code : Cod
     kept_at env s (unasked l) (suc n) ≡ Some d →
     leaves_by x.moved l x.pc x.next k ≡ true → trips ≤ d.counts k
 
--- A run of an image that is kept by loops that have to turn so often is kept by these, where the least turns of each loop are shown by the code
--- or are no more than the others.
+-- As long as it is tidy, a run of an image that is kept by loops that have to turn so often is kept by these, where the least turns of each loop
+-- are shown by the code or are no more than the others.
 abbrev pub LowerBoundsAreKept : Type 0
 LowerBoundsAreKept = (file : List ℕ) (image : Image) (levels : ℕ) (input : List ℕ) (code : Code) (v : Values) (w : Stacks) (l : Loops)
     (trips : ℕ → ℕ) → image_of file ≡ Ok image →
     All (λ x. x < 256) file → All (λ x. x < 256) input → IsStackAnalysed image code v w →
     ((k : ℕ) → k < l.loops → IsLowerShown (text_of image) (text_graph (text_of image) code) v w l k ⊎ (l.least_trips k ≤ trips k)) →
-    (n : ℕ) → IsKeptUpTo image levels input (with_trips l trips) n → IsKeptUpTo image levels input l n
+    (n : ℕ) → IsTidy v w (setting_of image levels input) (start_of image levels) n →
+    IsKeptUpTo image levels input (with_trips l trips) n → IsKeptUpTo image levels input l n

@@ -27,7 +27,8 @@ pub fn lower_certificates_bound_turns()
     ensures { LowerCertificatesBoundTurns }
 {}
 
-/// A run of an image that is kept where its loops have to turn less often is kept where they have to turn as often as tables of its code show.
+/// As long as it is tidy, a run of an image that is kept where its loops have to turn less often is kept where they have to turn as often as
+/// tables of its code show.
 pub fn lower_bounds_are_kept()
     ensures { LowerBoundsAreKept }
 {}

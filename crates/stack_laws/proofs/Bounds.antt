@@ -26,12 +26,13 @@ use Rattle.stack_laws.specs.Areas.{IsLaidOut}
 use Rattle.stack_laws.specs.Stacks.{name_span, IsSpanned, Stacks, View, view_of, IsNamed, IsStackInvariant, AreTold}
 use Rattle.stack_laws.specs.Stacks.Name.{of_begin}
 use Rattle.stack_laws.specs.Counting.{IsShown}
-use Rattle.stack_laws.specs.Tidy.{IsCertain}
+use Rattle.stack_laws.specs.Tidy.{IsTidy}
 use Rattle.stack_laws.specs.Laws.{IsStackAnalysed, ShownBoundsAreKept, ShownBoundsAreKeptByReturns, RunsAreKept}
 use Rattle.stack_laws.proofs.Naming.{begun_named, spanned_covers, span_named}
-use Rattle.stack_laws.proofs.Tidy.{certain_tidy}
+use Rattle.stack_laws.proofs.Tidy.{tidy_before, tidy_up_to}
 use Rattle.stack_laws.proofs.Returning.{runs_come_back}
 use Rattle.stack_laws.proofs.Counts.{stacks_bound_turns}
+use Rattle.stack_laws.proofs.Keeping.{kept_while}
 
 few_turns : (count least width bound : ℕ) → 0 < least → count * least ≤ width → width / least ≤ bound → count ≤ bound
 few_turns count least width bound p a b = let q : count ≤ width / least = (le-div_iff_mul-le p).1 a in omega arith
@@ -43,26 +44,26 @@ same_leaving l bounds Call pc next k = refl
 same_leaving l bounds Return pc next k = refl
 
 module _ (t : Text) (env : Setting) (s : State) (code : Code) (v : Values) (w : Stacks) (l : Loops) (start : IsStartOver t env s) (reached : IsReachedCode t code) (inv : IsStackInvariant t (text_graph t code) v w)
-    (laid : IsLaidOut env.layout w.areas w.fixed) (starts : AreTold v w s.pc (view_of w s.regs s.regs s.bytes)) (bytes : AreBytes s.bytes) (input : All (λ x. x < 256) env.input) (certain : IsCertain w) where
-  bounded : (k : ℕ) → IsShown t (text_graph t code) v w l k → (n : ℕ) (d : Carried) → kept_at env s (unasked l) n ≡ Some d → d.counts k ≤ l.bound k
-  bounded k has n d kept = few_turns (d.counts k) has.certificate.least has.certificate.width (l.bound k) has.positive
-      (stacks_bound_turns t env s code v w l k has.certificate start reached inv laid starts bytes input has.is has.within n (certain_tidy v w env s certain n) d kept) has.enough
+    (laid : IsLaidOut env.layout w.areas w.fixed) (starts : AreTold v w s.pc (view_of w s.regs s.regs s.bytes)) (bytes : AreBytes s.bytes) (input : All (λ x. x < 256) env.input) where
+  bounded : (k : ℕ) → IsShown t (text_graph t code) v w l k → (n : ℕ) → IsTidy v w env s n → (d : Carried) → kept_at env s (unasked l) n ≡ Some d → d.counts k ≤ l.bound k
+  bounded k has n tidy d kept = few_turns (d.counts k) has.certificate.least has.certificate.width (l.bound k) has.positive
+      (stacks_bound_turns t env s code v w l k has.certificate start reached inv laid starts bytes input has.is has.within n tidy d kept) has.enough
 
-  pub kept_by_shown : ((k : ℕ) → k < l.loops → IsShown t (text_graph t code) v w l k × (l.least_trips k ≡ 0)) → (n : ℕ) (d : Carried) → kept_at env s (unasked l) n ≡ Some d → kept_at env s l n ≡ Some d
-  kept_by_shown has n d kept = kept_too l (unasked l) (λ c x. refl) env s
-      (λ n c d x whole k. not_broken l d.counts x
-      (λ j jl. bounded j (has j jl).0 (suc n) d whole)
-      (λ j jl left. let z : l.least_trips j ≡ 0 = (has j jl).1 in let r : l.least_trips j ≤ d.counts j = omega arith in r)) n d kept
+  pub kept_by_shown : ((k : ℕ) → k < l.loops → IsShown t (text_graph t code) v w l k × (l.least_trips k ≡ 0)) → (n : ℕ) → IsTidy v w env s n → (d : Carried) → kept_at env s (unasked l) n ≡ Some d → kept_at env s l n ≡ Some d
+  kept_by_shown has n tidy d kept = kept_while l (unasked l) (λ c x. refl) env s (IsTidy v w env s) (tidy_before v w env s)
+      (λ n c d x tidy whole k. not_broken l d.counts x
+      (λ j jl. bounded j (has j jl).0 (suc n) tidy d whole)
+      (λ j jl left. let z : l.least_trips j ≡ 0 = (has j jl).1 in let r : l.least_trips j ≤ d.counts j = omega arith in r)) n tidy d kept
 
-  pub kept_by_bounds : (bounds : ℕ → ℕ) → ((k : ℕ) → k < l.loops → IsShown t (text_graph t code) v w l k ⊎ (bounds k ≤ l.bound k)) → (n : ℕ) (d : Carried) → kept_at env s (with_bounds l bounds) n ≡ Some d → kept_at env s l n ≡ Some d
-  kept_by_bounds bounds has n d kept = kept_too l (with_bounds l bounds) (λ c x. refl) env s
-      (λ n c d x whole k.
+  pub kept_by_bounds : (bounds : ℕ → ℕ) → ((k : ℕ) → k < l.loops → IsShown t (text_graph t code) v w l k ⊎ (bounds k ≤ l.bound k)) → (n : ℕ) → IsTidy v w env s n → (d : Carried) → kept_at env s (with_bounds l bounds) n ≡ Some d → kept_at env s l n ≡ Some d
+  kept_by_bounds bounds has n tidy d kept = kept_while l (with_bounds l bounds) (λ c x. refl) env s (IsTidy v w env s) (tidy_before v w env s)
+      (λ n c d x tidy whole k.
       let p = kept_parts (with_bounds l bounds) (counts_after l c x) x (returns_after c.returns x) d k in
       not_broken l d.counts x
       (λ j jl. ⊎_elim
-      (λ (b : IsShown t (text_graph t code) v w l j). bounded j b (suc n) d (kept_too (unasked l) (with_bounds l bounds) (λ c x. refl) env s (λ n c d x whole k. refl) (suc n) d whole))
+      (λ (b : IsShown t (text_graph t code) v w l j). bounded j b (suc n) tidy d (kept_too (unasked l) (with_bounds l bounds) (λ c x. refl) env s (λ n c d x whole k. refl) (suc n) d whole))
       (λ (low : bounds j ≤ l.bound j). let q : counts_after l c x j ≤ bounds j = p.2 j jl in let e : counts_after l c x j ≡ d.counts j = ap (λ f. f j) p.1 in let r : d.counts j ≤ l.bound j = omega arith in r) (has j jl))
-      (λ j jl left. subst (λ f. l.least_trips j ≤ f j) p.1 (p.3 j jl (same_leaving l bounds x.moved x.pc x.next j ∙ left)))) n d kept
+      (λ j jl left. subst (λ f. l.least_trips j ≤ f j) p.1 (p.3 j jl (same_leaving l bounds x.moved x.pc x.next j ∙ left)))) n tidy d kept
 
 no_key : (image : Image) → image.keyed_segment ≡ None → (layout_of image).keyed ≡ None
 unfolding layout_of
@@ -103,13 +104,13 @@ module _ (image : Image) (levels : ℕ) (code : Code) (v : Values) (w : Stacks) 
   }
 
 pub shown_kept : ShownBoundsAreKept
-shown_kept file image levels input code v w l bounds read small_file small_input ana which n kept =
+shown_kept file image levels input code v w l bounds read small_file small_input ana which n tidy kept =
     record {
       carried = kept.carried;
-      kept = by n kept.carried kept.kept;
+      kept = by n (omega arith) kept.carried kept.kept;
       shallow = λ m c le h.
           let b = kept_before env s (with_bounds l bounds) n m kept.carried le kept.kept in
-          let same : b.0 ≡ c = some_same b.0 c (sym (by m b.0 b.1) ∙ h) in
+          let same : b.0 ≡ c = some_same b.0 c (sym (by m le b.0 b.1) ∙ h) in
           subst (λ d. length d.returns ≤ most_returns) same (kept.shallow m b.0 le b.1);
     }
   where
@@ -119,12 +120,12 @@ shown_kept file image levels input code v w l bounds read small_file small_input
     s : State
     s = start_of image levels
 
-    by : (m : ℕ) (d : Carried) → kept_at env s (with_bounds l bounds) m ≡ Some d → kept_at env s l m ≡ Some d
-    by m d h = kept_by_bounds (text_of image) env s code v w l (image_starts file image levels input read) ana.reached ana.invariant (image_laid image code v w ana) (image_told image levels code v w ana) (loaded_small file image read small_file) small_input ana.certain bounds which m d h
+    by : (m : ℕ) → m ≤ n → (d : Carried) → kept_at env s (with_bounds l bounds) m ≡ Some d → kept_at env s l m ≡ Some d
+    by m le d h = kept_by_bounds (text_of image) env s code v w l (image_starts file image levels input read) ana.reached ana.invariant (image_laid image code v w ana) (image_told image levels code v w ana) (loaded_small file image read small_file) small_input bounds which m (tidy_up_to v w env s n m le tidy) d h
 
 pub shown_by_returns : ShownBoundsAreKeptByReturns
 unfolding run_of
-shown_by_returns file image levels input code v w l read small_file small_input ana which n returns =
+shown_by_returns file image levels input code v w l read small_file small_input ana which n tidy returns =
     record {
       carried = (here n (omega arith)).0;
       kept = (here n (omega arith)).1;
@@ -140,18 +141,18 @@ shown_by_returns file image levels input code v w l read small_file small_input 
     s : State
     s = start_of image levels
 
-    by : (m : ℕ) (d : Carried) → kept_at env s (unasked l) m ≡ Some d → kept_at env s l m ≡ Some d
-    by m d h = kept_by_shown (text_of image) env s code v w l (image_starts file image levels input read) ana.reached ana.invariant (image_laid image code v w ana) (image_told image levels code v w ana) (loaded_small file image read small_file) small_input ana.certain which m d h
+    by : (m : ℕ) → m ≤ n → (d : Carried) → kept_at env s (unasked l) m ≡ Some d → kept_at env s l m ≡ Some d
+    by m le d h = kept_by_shown (text_of image) env s code v w l (image_starts file image levels input read) ana.reached ana.invariant (image_laid image code v w ana) (image_told image levels code v w ana) (loaded_small file image read small_file) small_input which m (tidy_up_to v w env s n m le tidy) d h
 
     here : (m : ℕ) → m ≤ n → (d : Carried) × (kept_at env s l m ≡ Some d) × (length d.returns ≤ most_returns)
     here m le =
         let q = returns m le in
         let k = all_returns env s l m q.0 q.1 in
-        (k.0, by m k.0 k.1, subst (λ rs. length rs ≤ most_returns) (sym k.2) q.2)
+        (k.0, by m le k.0 k.1, subst (λ rs. length rs ≤ most_returns) (sym k.2) q.2)
 
 pub runs_kept : RunsAreKept
 unfolding run_of
-runs_kept file image levels input code v w l read small_file small_input ana comes which n =
-    shown_by_returns file image levels input code v w l read small_file small_input ana which n (λ m le.
+runs_kept file image levels input code v w l read small_file small_input ana comes which n tidy =
+    shown_by_returns file image levels input code v w l read small_file small_input ana which n tidy (λ m le.
     runs_come_back (text_of image) (setting_of image levels input) (start_of image levels) code v w (image_starts file image levels input read) ana.reached ana.invariant comes (image_laid image code v w ana) (image_told image levels code v w ana) (loaded_small file image read small_file) small_input m
-    (certain_tidy v w (setting_of image levels input) (start_of image levels) ana.certain m))
+    (tidy_up_to v w (setting_of image levels input) (start_of image levels) n m le tidy))

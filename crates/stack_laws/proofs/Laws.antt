@@ -2,6 +2,7 @@
 pub use Rattle.stack_laws.proofs.Returning.{runs_come_back}
 pub use Rattle.stack_laws.proofs.Bounds.{image_laid, image_told, shown_kept, shown_by_returns}
 pub use Rattle.stack_laws.proofs.Counts.{stacks_bound_turns}
+pub use Rattle.stack_laws.proofs.Keeping.{kept_while}
 pub use Rattle.stack_laws.proofs.Tidy.{activations_of, certain_step, certain_tidy, tidy_before, tidy_up_to, tidy_step, open_first, open_over, open_call, open_back}
 pub use Rattle.stack_laws.proofs.Inductions.{along}
 pub use Rattle.stack_laws.proofs.Runs.{Holds, Returned, over_holds, call_holds, back_holds}

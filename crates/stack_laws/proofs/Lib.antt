@@ -18,5 +18,6 @@ pub mod Turns
 pub mod Counts
 pub mod Restoring
 pub mod Returning
+pub mod Keeping
 pub mod Bounds
 pub mod Laws

@@ -7,7 +7,7 @@ use Rattle.scale_base.specs.State.{Setting, State, reg}
 use Rattle.scale_base.specs.Step.{step}
 use Rattle.scale_base.specs.Image.{Image, image_of, loaded_byte}
 use Rattle.scale_base.specs.Layout.{layout_of}
-use Rattle.scale_base.specs.Run.{GoesOn, run, run_of, STACK_POINTER}
+use Rattle.scale_base.specs.Run.{GoesOn, run, run_of, setting_of, start_of, STACK_POINTER}
 use Rattle.cost_theory.specs.Graph.{Loops}
 use Rattle.cost_theory.specs.Reached.{Code}
 use Rattle.code_text.specs.Text.{Text, text_of}
@@ -74,8 +74,7 @@ StackCertificatesBoundTurns = (t : Text) (env : Setting) (s : State) (code : Cod
     IsStackCertificate t (text_graph t code) v w (l.header k) (l.inside k) c → IsWithin v w c.width c.counter (l.header k) →
     (n : ℕ) → IsTidy v w env s n → (d : Carried) → kept_at env s (unasked l) n ≡ Some d → d.counts k * c.least ≤ c.width
 
--- What the code of an image without a keyed segment says by itself: its reached code, and tables that it confirms, from any bytes on, in
--- which nothing is doubtful.
+-- What the code of an image without a keyed segment says by itself: its reached code, and tables that it confirms, from any bytes on.
 pub record IsStackAnalysed (image : Image) (code : Code) (v : Values) (w : Stacks) : Type 0 where
   pub reached : IsReachedCode (text_of image) code
   pub invariant : IsStackInvariant (text_of image) (text_graph (text_of image) code) v w
@@ -88,23 +87,26 @@ pub record IsStackAnalysed (image : Image) (code : Code) (v : Values) (w : Stack
   -- the memory with which a run begins
   pub cells : (c : ℕ) → IsCellHeld (w.cell c) (loaded_byte image)
   pub fixed : AreFixedIn w.fixed (loaded_byte image)
-  pub certain : IsCertain w
 
--- A run of an image that is kept by some bounds is kept by these, where each loop's bound is shown by the code or is no less than the other.
+-- As long as it is tidy, a run of an image that is kept by some bounds is kept by these, where each loop's bound is shown by the code or is no
+-- less than the other.
 abbrev pub ShownBoundsAreKept : Type 0
 ShownBoundsAreKept = (file : List ℕ) (image : Image) (levels : ℕ) (input : List ℕ) (code : Code) (v : Values) (w : Stacks) (l : Loops)
     (bounds : ℕ → ℕ) → image_of file ≡ Ok image →
     All (λ x. x < 256) file → All (λ x. x < 256) input → IsStackAnalysed image code v w →
     ((k : ℕ) → k < l.loops → IsShown (text_of image) (text_graph (text_of image) code) v w l k ⊎ (bounds k ≤ l.bound k)) →
-    (n : ℕ) → IsKeptUpTo image levels input (with_bounds l bounds) n → IsKeptUpTo image levels input l n
+    (n : ℕ) → IsTidy v w (setting_of image levels input) (start_of image levels) n →
+    IsKeptUpTo image levels input (with_bounds l bounds) n → IsKeptUpTo image levels input l n
 
--- Where all bounds are shown, and no loop has to turn, a run is kept if its returns go back to their calls and its calls are not too deep.
+-- Where all bounds are shown, and no loop has to turn, a run is kept as long as it is tidy, if its returns go back to their calls and its calls
+-- are not too deep.
 abbrev pub ShownBoundsAreKeptByReturns : Type 0
 ShownBoundsAreKeptByReturns = (file : List ℕ) (image : Image) (levels : ℕ) (input : List ℕ) (code : Code) (v : Values) (w : Stacks)
     (l : Loops) → image_of file ≡ Ok image →
     All (λ x. x < 256) file → All (λ x. x < 256) input → IsStackAnalysed image code v w →
     ((k : ℕ) → k < l.loops → IsShown (text_of image) (text_graph (text_of image) code) v w l k × (l.least_trips k ≡ 0)) →
-    (n : ℕ) → ((m : ℕ) → m ≤ n → (rs : List ℕ) × (returns_so (run_of image levels input m).steps ≡ Some rs) × (length rs ≤ most_returns)) →
+    (n : ℕ) → IsTidy v w (setting_of image levels input) (start_of image levels) n →
+    ((m : ℕ) → m ≤ n → (rs : List ℕ) × (returns_so (run_of image levels input m).steps ≡ Some rs) × (length rs ≤ most_returns)) →
     IsKeptUpTo image levels input l n
 
 -- Where the code says so of returns, each return of a tidy run goes back behind its call, and calls are never too deep.
@@ -114,11 +116,12 @@ RunsComeBack = (t : Text) (env : Setting) (s : State) (code : Code) (v : Values)
     IsLaidOut env.layout w.areas w.fixed → AreTold v w s.pc (view_of w s.regs s.regs s.bytes) → AreBytes s.bytes → All (λ x. x < 256) env.input →
     (n : ℕ) → IsTidy v w env s n → (rs : List ℕ) × (returns_so (run env s n).steps ≡ Some rs) × (length rs ≤ most_returns)
 
--- Where all bounds are shown, no loop has to turn and the code says so of returns, every run of the image is kept, on each input.
+-- Where all bounds are shown, no loop has to turn and the code says so of returns, every run of the image is kept as long as it is tidy, on
+-- each input.
 abbrev pub RunsAreKept : Type 0
 RunsAreKept = (file : List ℕ) (image : Image) (levels : ℕ) (input : List ℕ) (code : Code) (v : Values) (w : Stacks) (l : Loops) →
     image_of file ≡ Ok image →
     All (λ x. x < 256) file → All (λ x. x < 256) input → IsStackAnalysed image code v w →
     ComesBack (text_of image) (text_graph (text_of image) code) v w →
-    ((k : ℕ) → k < l.loops → IsShown (text_of image) (text_graph (text_of image) code) v w l k × (l.least_trips k ≡ 0)) → (n : ℕ) →
-    IsKeptUpTo image levels input l n
+    ((k : ℕ) → k < l.loops → IsShown (text_of image) (text_graph (text_of image) code) v w l k × (l.least_trips k ≡ 0)) →
+    (n : ℕ) → IsTidy v w (setting_of image levels input) (start_of image levels) n → IsKeptUpTo image levels input l n

@@ -23,14 +23,14 @@ pub fn stack_certificates_bound_turns()
     ensures { StackCertificatesBoundTurns }
 {}
 
-/// A run of an image breaks no bound that tables of its code show, before it breaks a return address or another bound.
+/// As long as it is tidy, a run of an image breaks no bound that tables of its code show, before it breaks a return address or another bound.
 pub fn shown_bounds_are_kept()
     ensures shown { ShownBoundsAreKept }
     ensures all { ShownBoundsAreKeptByReturns }
 {}
 
-/// Returns whose x1 is what it was when the function began go back behind their calls. Where all bounds are shown too, every run of an
-/// image keeps them, on each input.
+/// Returns whose x1 is what it was when the function began go back behind their calls, as long as a run is tidy. Where all bounds are shown too,
+/// every run of an image keeps them as long as it is tidy, on each input.
 pub fn runs_are_kept()
     ensures returns { RunsComeBack }
     ensures kept { RunsAreKept }

@@ -22,14 +22,12 @@ use Rattle.stack_laws.specs.Areas.{IsLaidOut}
 use Rattle.stack_laws.specs.Stacks.{Stacks, view_of, IsStackInvariant, AreTold}
 use Rattle.stack_laws.specs.Counting as counting
 use Rattle.stack_laws.specs.Tidy.{IsTidy}
-use Rattle.stack_laws.proofs.Laws.{certain_tidy, tidy_before, image_laid, image_told, runs_come_back}
-use Rattle.stack_laws.proofs.Laws.{stacks_bound_turns}
+use Rattle.stack_laws.proofs.Laws.{tidy_before, tidy_up_to, image_laid, image_told, kept_while, runs_come_back, stacks_bound_turns}
 use Rattle.walk_areas.specs.Walking.{IsWalkShown}
 use Rattle.walk_areas.proofs.Laws.{walks_bound}
 use Rattle.turn_laws.specs.Relating.{IsInputWithin, IsShown, IsTurnShown}
 use Rattle.turn_laws.specs.Laws.{TidyBoundsAreKept, TidyRunsAreKept, ShownBoundsAreKept, ShownBoundsAreKeptByReturns, RunsAreKept}
 use Rattle.turn_laws.proofs.Counts.{turns_bound}
-use Rattle.turn_laws.proofs.Keeping.{kept_while}
 
 few_turns : (count least width bound : ℕ) → 0 < least → count * least ≤ width → width / least ≤ bound → count ≤ bound
 few_turns count least width bound p a b = let q : count ≤ width / least = (le-div_iff_mul-le p).1 a in omega arith
@@ -82,13 +80,13 @@ some_same : (x y : Carried) → Some x ≡ Some y → x ≡ y
 some_same x y e = let r : x ≡ y = cc in r
 
 pub shown_kept : ShownBoundsAreKept
-shown_kept file image levels input code v w most l bounds read small_file small_input within ana which n kept =
+shown_kept file image levels input code v w most l bounds read small_file small_input within ana which n tidy kept =
     record {
       carried = kept.carried;
-      kept = by n kept.carried kept.kept;
+      kept = by n (omega arith) kept.carried kept.kept;
       shallow = λ m c le h.
           let b = kept_before env s (with_bounds l bounds) n m kept.carried le kept.kept in
-          let same : b.0 ≡ c = some_same b.0 c (sym (by m b.0 b.1) ∙ h) in
+          let same : b.0 ≡ c = some_same b.0 c (sym (by m le b.0 b.1) ∙ h) in
           subst (λ d. length d.returns ≤ most_returns) same (kept.shallow m b.0 le b.1);
     }
   where
@@ -98,12 +96,12 @@ shown_kept file image levels input code v w most l bounds read small_file small_
     s : State
     s = start_of image levels
 
-    by : (m : ℕ) (d : Carried) → kept_at env s (with_bounds l bounds) m ≡ Some d → kept_at env s l m ≡ Some d
-    by m d h = kept_by_bounds (text_of image) env s code v w most l (image_starts file image levels input read) ana.reached ana.invariant (image_laid image code v w ana) (image_told image levels code v w ana) (loaded_small file image read small_file) small_input within bounds which m (certain_tidy v w env s ana.certain m) d h
+    by : (m : ℕ) → m ≤ n → (d : Carried) → kept_at env s (with_bounds l bounds) m ≡ Some d → kept_at env s l m ≡ Some d
+    by m le d h = kept_by_bounds (text_of image) env s code v w most l (image_starts file image levels input read) ana.reached ana.invariant (image_laid image code v w ana) (image_told image levels code v w ana) (loaded_small file image read small_file) small_input within bounds which m (tidy_up_to v w env s n m le tidy) d h
 
 pub shown_by_returns : ShownBoundsAreKeptByReturns
 unfolding run_of
-shown_by_returns file image levels input code v w most l read small_file small_input within ana which n returns =
+shown_by_returns file image levels input code v w most l read small_file small_input within ana which n tidy returns =
     record {
       carried = (here n (omega arith)).0;
       kept = (here n (omega arith)).1;
@@ -119,18 +117,18 @@ shown_by_returns file image levels input code v w most l read small_file small_i
     s : State
     s = start_of image levels
 
-    by : (m : ℕ) (d : Carried) → kept_at env s (unasked l) m ≡ Some d → kept_at env s l m ≡ Some d
-    by m d h = kept_by_shown (text_of image) env s code v w most l (image_starts file image levels input read) ana.reached ana.invariant (image_laid image code v w ana) (image_told image levels code v w ana) (loaded_small file image read small_file) small_input within which m (certain_tidy v w env s ana.certain m) d h
+    by : (m : ℕ) → m ≤ n → (d : Carried) → kept_at env s (unasked l) m ≡ Some d → kept_at env s l m ≡ Some d
+    by m le d h = kept_by_shown (text_of image) env s code v w most l (image_starts file image levels input read) ana.reached ana.invariant (image_laid image code v w ana) (image_told image levels code v w ana) (loaded_small file image read small_file) small_input within which m (tidy_up_to v w env s n m le tidy) d h
 
     here : (m : ℕ) → m ≤ n → (d : Carried) × (kept_at env s l m ≡ Some d) × (length d.returns ≤ most_returns)
     here m le =
         let q = returns m le in
         let k = all_returns env s l m q.0 q.1 in
-        (k.0, by m k.0 k.1, subst (λ rs. length rs ≤ most_returns) (sym k.2) q.2)
+        (k.0, by m le k.0 k.1, subst (λ rs. length rs ≤ most_returns) (sym k.2) q.2)
 
 pub runs_kept : RunsAreKept
 unfolding run_of
-runs_kept file image levels input code v w most l read small_file small_input within ana comes which n =
-    shown_by_returns file image levels input code v w most l read small_file small_input within ana which n (λ m le.
+runs_kept file image levels input code v w most l read small_file small_input within ana comes which n tidy =
+    shown_by_returns file image levels input code v w most l read small_file small_input within ana which n tidy (λ m le.
     runs_come_back (text_of image) (setting_of image levels input) (start_of image levels) code v w (image_starts file image levels input read) ana.reached ana.invariant comes (image_laid image code v w ana) (image_told image levels code v w ana) (loaded_small file image read small_file) small_input m
-    (certain_tidy v w (setting_of image levels input) (start_of image levels) ana.certain m))
+    (tidy_up_to v w (setting_of image levels input) (start_of image levels) n m le tidy))

@@ -4,6 +4,5 @@ mod Facts
 mod Turns
 mod Steps
 mod Counts
-mod Keeping
 mod Bounds
 pub mod Laws

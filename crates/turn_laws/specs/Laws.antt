@@ -2,7 +2,7 @@
 use Rattle.std.specs.Prelude.{◌≡◌, ℕ, ◌*◌, ◌<◌, ◌≤◌, ◌⊎◌, All, List, length, Option, Some, Ok}
 use Rattle.scale_base.specs.State.{Setting, State}
 use Rattle.scale_base.specs.Image.{Image, image_of}
-use Rattle.scale_base.specs.Run.{run_of}
+use Rattle.scale_base.specs.Run.{run_of, setting_of, start_of}
 use Rattle.cost_theory.specs.Graph.{Loops}
 use Rattle.cost_theory.specs.Reached.{Code}
 use Rattle.code_text.specs.Text.{Text, text_of}
@@ -47,29 +47,34 @@ TidyRunsAreKept = (t : Text) (env : Setting) (s : State) (code : Code) (v : Valu
     ((k : ℕ) → k < l.loops → IsShown t (text_graph t code) v w most l k × (l.least_trips k ≡ 0)) →
     (n : ℕ) → IsTidy v w env s n → (d : Carried) × (kept_at env s l n ≡ Some d) × (length d.returns ≤ most_returns)
 
--- A run of an image that is kept by some bounds is kept by these, where each loop's bound is shown by the code or is no less than the other.
+-- As long as it is tidy, a run of an image that is kept by some bounds is kept by these, where each loop's bound is shown by the code or is no
+-- less than the other.
 abbrev pub ShownBoundsAreKept : Type 0
 ShownBoundsAreKept = (file : List ℕ) (image : Image) (levels : ℕ) (input : List ℕ) (code : Code) (v : Values) (w : Stacks)
     (most : Option ℕ) (l : Loops) (bounds : ℕ → ℕ) → image_of file ≡ Ok image →
     All (λ x. x < 256) file → All (λ x. x < 256) input → IsInputWithin most input → IsStackAnalysed image code v w →
     ((k : ℕ) → k < l.loops → IsShown (text_of image) (text_graph (text_of image) code) v w most l k ⊎ (bounds k ≤ l.bound k)) →
-    (n : ℕ) → IsKeptUpTo image levels input (with_bounds l bounds) n → IsKeptUpTo image levels input l n
+    (n : ℕ) → IsTidy v w (setting_of image levels input) (start_of image levels) n →
+    IsKeptUpTo image levels input (with_bounds l bounds) n → IsKeptUpTo image levels input l n
 
--- Where all bounds are shown, and no loop has to turn, a run is kept if its returns go back to their calls and its calls are not too deep.
+-- Where all bounds are shown, and no loop has to turn, a run is kept as long as it is tidy, if its returns go back to their calls and its calls
+-- are not too deep.
 abbrev pub ShownBoundsAreKeptByReturns : Type 0
 ShownBoundsAreKeptByReturns = (file : List ℕ) (image : Image) (levels : ℕ) (input : List ℕ) (code : Code) (v : Values) (w : Stacks)
     (most : Option ℕ) (l : Loops) → image_of file ≡ Ok image →
     All (λ x. x < 256) file → All (λ x. x < 256) input → IsInputWithin most input → IsStackAnalysed image code v w →
     ((k : ℕ) → k < l.loops → IsShown (text_of image) (text_graph (text_of image) code) v w most l k × (l.least_trips k ≡ 0)) →
-    (n : ℕ) → ((m : ℕ) → m ≤ n → (rs : List ℕ) × (returns_so (run_of image levels input m).steps ≡ Some rs) × (length rs ≤ most_returns)) →
+    (n : ℕ) → IsTidy v w (setting_of image levels input) (start_of image levels) n →
+    ((m : ℕ) → m ≤ n → (rs : List ℕ) × (returns_so (run_of image levels input m).steps ≡ Some rs) × (length rs ≤ most_returns)) →
     IsKeptUpTo image levels input l n
 
--- Where all bounds are shown, no loop has to turn and the code says so of returns, every run of the image is kept, on each input.
+-- Where all bounds are shown, no loop has to turn and the code says so of returns, every run of the image is kept as long as it is tidy, on
+-- each input.
 abbrev pub RunsAreKept : Type 0
 RunsAreKept = (file : List ℕ) (image : Image) (levels : ℕ) (input : List ℕ) (code : Code) (v : Values) (w : Stacks)
     (most : Option ℕ) (l : Loops) →
     image_of file ≡ Ok image →
     All (λ x. x < 256) file → All (λ x. x < 256) input → IsInputWithin most input → IsStackAnalysed image code v w →
     ComesBack (text_of image) (text_graph (text_of image) code) v w →
-    ((k : ℕ) → k < l.loops → IsShown (text_of image) (text_graph (text_of image) code) v w most l k × (l.least_trips k ≡ 0)) → (n : ℕ) →
-    IsKeptUpTo image levels input l n
+    ((k : ℕ) → k < l.loops → IsShown (text_of image) (text_graph (text_of image) code) v w most l k × (l.least_trips k ≡ 0)) →
+    (n : ℕ) → IsTidy v w (setting_of image levels input) (start_of image levels) n → IsKeptUpTo image levels input l n

@@ -17,8 +17,9 @@ pub fn tidy_runs_are_kept()
     ensures kept { TidyRunsAreKept }
 {}
 
-/// A run of an image breaks no bound that tables of its code show, in one way or in the other, before it breaks a return address or another
-/// bound. Where all bounds are shown, and the code says of returns that they go back, every run of an image keeps them, on each input.
+/// As long as it is tidy, a run of an image breaks no bound that tables of its code show, in one way or in the other, before it breaks a return
+/// address or another bound. Where all bounds are shown, and the code says of returns that they go back, every run of an image keeps them as
+/// long as it is tidy, on each input.
 pub fn shown_bounds_are_kept()
     ensures shown { ShownBoundsAreKept }
     ensures all { ShownBoundsAreKeptByReturns }
