@@ -104,9 +104,13 @@ pub spared_seen : (c : StackClaim) → IsStackClaim c → (k j : ℕ) → k < le
 unfolding stacks_in
 spared_seen c is k j lt = seen false c is c.stack.now.spared.items is.stacks.spared k lt
 
-pub kept_seen : (c : StackClaim) (f k : ℕ) → true ≡ (stacks_in c).kept f k
+pub doubtful_seen : (c : StackClaim) → IsStackClaim c → (k : ℕ) → k < length c.graph.now.code.nodes → or_other false (slice_get c.stack.now.doubtful.items k) ≡ (stacks_in c).doubtful (address c k)
 unfolding stacks_in
-kept_seen c f k = refl
+doubtful_seen c is k lt = seen false c is c.stack.now.doubtful.items is.stacks.doubtful k lt
+
+pub kept_seen : (c : StackClaim) (k f j : ℕ) → f ≡ (graph c.graph.now).owner (get_or c.graph.now.code.nodes k 0) → flag (or_other [] (slice_get c.stack.now.kept.items f)) j ≡ (stacks_in c).kept ((values_in c).function (address c k)) j
+unfolding stacks_in values_in address
+kept_seen c k f j owner = ap (λ (x : ℕ). flag (or_other [] (slice_get c.stack.now.kept.items x)) j) owner
 
 pub place_seen : (c : StackClaim) (j : ℕ) → c.stack.now.place ≡ (stacks_in c).place j
 unfolding stacks_in

@@ -117,9 +117,8 @@ stacks_of code stack = record {
   dwindling = λ a j. dwindling_in (dwindling_at code stack a) j;
   areas = λ k. slice_get stack.areas.items k;
   fixed = λ at. fixed_in stack.fixed.items at;
-  -- nothing is taken for granted
-  doubtful = λ a. false;
-  kept = λ f k. true;
+  doubtful = λ a. beside false code.nodes stack.doubtful.items a;
+  kept = λ f k. flag (or_other [] (slice_get stack.kept.items f)) k;
 }
 
 -- the intervals of a word are short enough to be kept
@@ -188,6 +187,8 @@ pub record AreStacksSized (code : Code) (stack : StackTable) : Type 0 where
   pub areas_few : length stack.areas.items ≤ 64
   pub areas_kept : All IsKept stack.areas.items
   pub fixed_few : length stack.fixed.items ≤ 16
+  pub doubtful : length stack.doubtful.items ≡ length code.nodes
+  pub kept : length stack.kept.items ≡ length code.functions
 
 -- two tables with their numbers for a program
 pub record IsStackClaim (c : StackClaim) : Type 0 where

@@ -13,7 +13,7 @@ ghost use Rattle.stack_tables.specs.Tables.{HasKeptValues, IsDwindlingKept, IsSt
 
 use crate::claims::StackClaim;
 use crate::rows::{
-    arcs_row, begins_row, dwindling_row, exits_row, form_row, line_in_row, lines_row, live_row,
+    arcs_row, begins_row, doubtful_row, dwindling_row, exits_row, form_row, kept_row, line_in_row, lines_row, live_row,
     name_in_row, names_row, restored_row, span_in_row, spared_row, told_row, word_in, words_row,
 };
 use crate::tables::{Cell, Dwindling, FixedPart, Name, Told, Word};
@@ -213,11 +213,22 @@ pub fn is_spared(claim: &StackClaim<'_>, k: usize) -> bool
     spared_row(claim.stack, k)
 }
 
-/// Whether no store that is taken to miss the words of the stack may be to one: none is taken so.
-pub fn is_kept(claim: &StackClaim<'_>) -> bool
-    ensures { (f k : ℕ) → result ≡ (stacks_in claim.now).kept f k }
+/// Whether what the instruction of node k stores is taken to miss all words of the stack that are kept.
+pub fn is_doubtful(claim: &StackClaim<'_>, k: usize) -> bool
+    requires claim { IsStackClaim claim.now }
+    requires node { k < length claim.now.graph.now.code.nodes }
+    ensures { result ≡ (stacks_in claim.now).doubtful (address claim.now k) }
 {
-    true
+    doubtful_row(claim.stack, k)
+}
+
+/// Whether word `number` of the stack of node k's function is one of those.
+pub fn is_kept(claim: &StackClaim<'_>, k: usize, number: u32) -> bool
+    requires claim { IsStackClaim claim.now }
+    requires node { k < length claim.now.graph.now.code.nodes }
+    ensures { result ≡ (stacks_in claim.now).kept ((values_in claim.now).function (address claim.now k)) number }
+{
+    kept_row(claim.stack, claim.graph.owner(k), number)
 }
 
 /// Where those words may be.

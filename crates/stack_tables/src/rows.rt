@@ -97,6 +97,25 @@ pub fn spared_row(stack: &StackTable, k: usize) -> bool
     stack.spared[k]
 }
 
+/// Whether what is stored at node k is taken to miss all words that are kept.
+pub fn doubtful_row(stack: &StackTable, k: usize) -> bool
+    requires { k < length stack.now.doubtful.items }
+    ensures { result ≡ or_other false (slice_get stack.now.doubtful.items k) }
+{
+    stack.doubtful[k]
+}
+
+/// Whether a word of the stack of function f is kept: none is behind the last one.
+pub fn kept_row(stack: &StackTable, f: usize, number: u32) -> bool
+    requires { f < length stack.now.kept.items }
+    ensures { result ≡ flag (or_other [] (slice_get stack.now.kept.items f)) number }
+{
+    match stack.kept[f].get(number as usize) {
+        Some(is) => *is,
+        None => false,
+    }
+}
+
 /// The words at node k.
 pub fn words_row(stack: &StackTable, k: usize) -> &[Word]
     requires row { k < length stack.now.words.items }

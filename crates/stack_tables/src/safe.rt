@@ -55,7 +55,7 @@ pub fn is_safe(claim: &StackClaim<'_>, u: usize, h: usize, number: u32) -> bool
     match descending(claim, u) {
         Some(more) => {
             is_spared(claim, h)
-                && is_kept(claim)
+                && is_kept(claim, u, number)
                 && is_placed(claim, u, number)
                 && opposite_of(offset(claim, number)) <= opposite_of(u64::from(more))
         }

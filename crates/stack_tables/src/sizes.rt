@@ -201,5 +201,7 @@ pub fn is_stack_sized(graph: &CodeGraph, stack: &StackTable) -> bool
         && stack.dwindling.len() == nodes
         && stack.areas.len() <= MOST_AREAS
         && stack.fixed.len() <= MOST_PARTS
+        && stack.doubtful.len() == nodes
+        && stack.kept.len() == functions
         && are_all_kept(stack)
 }

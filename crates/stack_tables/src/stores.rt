@@ -12,7 +12,7 @@ use crate::apart::{are_apart, are_below, has_not, is_apart, is_below, known_sum}
 use crate::claims::StackClaim;
 use crate::memory::Storing;
 use crate::names::offset_of;
-use crate::reading::{arcs, begins, name_of, offset, place, span, span_of, word};
+use crate::reading::{arcs, begins, is_doubtful, is_kept, name_of, offset, place, span, span_of, word};
 use crate::tables::Name;
 use scale_base::{Instr, LoadOp, StoreOp};
 use wrapped_intervals::{Arc, held, opposite_of, sum_with, top_of};
@@ -382,6 +382,7 @@ pub fn is_missed(claim: &StackClaim<'_>, i: Instr, k: usize, number: u32) -> boo
         sum_with(begins(claim, k), offset(claim, number)),
     ) || is_missed_by_name(claim, i, k, number)
         || is_missed_by_span(claim, i, k, number)
+        || (is_doubtful(claim, k) && is_kept(claim, k, number))
 }
 
 // Whether it stores below what x2 had when the function began, by the name of its register.
