@@ -4,6 +4,7 @@
 #![tactic(auto)]
 
 mod apart;
+mod certain;
 mod claims;
 mod fixed;
 mod memory;
@@ -18,6 +19,7 @@ mod strides;
 mod tables;
 
 pub use apart::{known_sum, known_sums};
+pub use certain::is_certain;
 pub use claims::StackClaim;
 pub use fixed::{fixed_byte, fixed_load};
 pub use memory::{Storing, is_kept_by, is_loaded_from, load_width};
@@ -26,8 +28,9 @@ pub use predicates::{
     is_live_at, is_missed_by, is_restored_by, is_safe_at, line_at, name_at, stored_word, word_at,
 };
 pub use reading::{
-    address, arcs, areas, begins, cells, dwindling, exits, fixed_parts, form, instruction, is_live,
-    is_restored, is_spared, line, lines, name, name_of, span, span_of, told, word, word_count,
+    address, arcs, areas, begins, cells, dwindling, exits, fixed_parts, form, instruction,
+    is_doubtful, is_kept, is_live, is_restored, is_spared, line, lines, name, name_of, span,
+    span_of, told, word, word_count,
 };
 pub use safe::{descending, is_given_back, is_name_safe, is_safe};
 pub use sizes::is_stack_sized;

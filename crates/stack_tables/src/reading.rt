@@ -13,8 +13,9 @@ ghost use Rattle.stack_tables.specs.Tables.{HasKeptValues, IsDwindlingKept, IsSt
 
 use crate::claims::StackClaim;
 use crate::rows::{
-    arcs_row, begins_row, doubtful_row, dwindling_row, exits_row, form_row, kept_row, line_in_row, lines_row, live_row,
-    name_in_row, names_row, restored_row, span_in_row, spared_row, told_row, word_in, words_row,
+    arcs_row, begins_row, doubtful_row, dwindling_row, exits_row, form_row, kept_row, line_in_row,
+    lines_row, live_row, name_in_row, names_row, restored_row, span_in_row, spared_row, told_row,
+    word_in, words_row,
 };
 use crate::tables::{Cell, Dwindling, FixedPart, Name, Told, Word};
 use code_text::instr_at;

@@ -12,7 +12,9 @@ use crate::apart::{are_apart, are_below, has_not, is_apart, is_below, known_sum}
 use crate::claims::StackClaim;
 use crate::memory::Storing;
 use crate::names::offset_of;
-use crate::reading::{arcs, begins, is_doubtful, is_kept, name_of, offset, place, span, span_of, word};
+use crate::reading::{
+    arcs, begins, is_doubtful, is_kept, name_of, offset, place, span, span_of, word,
+};
 use crate::tables::Name;
 use scale_base::{Instr, LoadOp, StoreOp};
 use wrapped_intervals::{Arc, held, opposite_of, sum_with, top_of};
@@ -369,7 +371,7 @@ fn is_missed_by_span(claim: &StackClaim<'_>, i: Instr, k: usize, number: u32) ->
     )
 }
 
-/// Whether what the instruction of node k stores misses word `number` of the function's own stack.
+/// Whether what the instruction of node k stores misses word `number` of the function's own stack, or is taken to.
 pub fn is_missed(claim: &StackClaim<'_>, i: Instr, k: usize, number: u32) -> bool
     requires claim { IsStackClaim claim.now }
     requires node { k < length claim.now.graph.now.code.nodes }
@@ -413,7 +415,7 @@ fn is_below_by_span(claim: &StackClaim<'_>, i: Instr, k: usize) -> bool
     )
 }
 
-/// Whether what the instruction of node k stores misses the words of what waits for the function.
+/// Whether what the instruction of node k stores misses the words of what waits for the function, or is taken to.
 pub fn is_sparing(claim: &StackClaim<'_>, i: Instr, k: usize) -> bool
     requires claim { IsStackClaim claim.now }
     requires node { k < length claim.now.graph.now.code.nodes }
@@ -422,6 +424,7 @@ pub fn is_sparing(claim: &StackClaim<'_>, i: Instr, k: usize) -> bool
     is_far(claim, i, k, place(claim))
         || is_below_by_name(claim, i, k)
         || is_below_by_span(claim, i, k)
+        || is_doubtful(claim, k)
 }
 
 /// Whether what a name names is not stored to at node k.
