@@ -156,5 +156,4 @@ analysed c is plain start areas cells unwritten fixed given = record {
   cells = cells;
   unwritten = unwritten;
   fixed = fixed;
-  certain = λ a. refl;
 }

@@ -3,3 +3,4 @@ mod Public
 pub mod Laws
 mod Fixing
 mod Numbers
+pub mod Doubts

@@ -1,6 +1,6 @@
 -- Scaffold: a table of stacks as what `stack_laws` calls stacks: by address what stands beside it in the list of nodes, by register what stands in the
 -- row, and by number of a word what stands in the row of words.
-use Rattle.std.specs.Prelude.{◌≡◌, ℕ, ◌+◌, ◌-◌, ◌*◌, ◌^◌, ◌<◌, ◌≤◌, ◌⊎◌, ◌&&◌, nat_le, nat_lt, find, Bool, true, false, List, [], length, slice_get, slice_index, map, option_map, option_and_then, Option, Some, None, Ok, Vec}
+use Rattle.std.specs.Prelude.{◌≡◌, ℕ, ◌+◌, ◌-◌, ◌*◌, ◌^◌, ◌<◌, ◌≤◌, ◌⊎◌, ◌&&◌, nat_le, nat_lt, find, Bool, false, List, [], length, slice_get, slice_index, map, option_map, option_and_then, Option, Some, None, Ok, Vec}
 use Rattle.std.specs.List.{All}
 use Rattle.std.specs.declared.alloc.Global.{Global}
 use Rattle.scale_base.specs.declared.instruction.Instr.{Instr}

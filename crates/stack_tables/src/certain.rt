@@ -11,8 +11,8 @@ use crate::claims::StackClaim;
 fn are_none(flags: &[bool]) -> bool
     ensures { result ≡ true → All (λ is. is ≡ false) flags.now }
 {
-    for is in flags {
-        if *is {
+    for flag in flags {
+        if *flag {
             return false;
         }
     }
