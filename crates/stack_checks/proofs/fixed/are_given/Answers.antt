@@ -1,4 +1,4 @@
-use Rattle.std.proofs.Common.{ℕ, ◌<◌, ◌+◌, ◌*◌, ◌%◌, ◌^◌, refl, subst, arith, below_more}
+use Rattle.std.proofs.Common.{ℕ, ◌+◌, ◌*◌, ◌%◌, ◌^◌, refl, subst, arith, below_more}
 use Rattle.stack_tables.specs.Tables.{fixed_in}
 use Rattle.stack_checks.specs.Checked.{GivesAt}
 use Rattle.stack_checks.proofs.Fixing.{gives_all}
