@@ -246,6 +246,22 @@ impl<'a> Scope<'a> {
         }
     }
 
+    /// Whether what a node stores is taken to miss all words that are kept.
+    pub fn is_doubtful(&self, k: usize) -> bool {
+        self.tables.stack.doubtful.get(k).copied().unwrap_or(false)
+    }
+
+    /// Whether a word of the function of a node is one of those.
+    pub fn is_kept(&self, k: usize, number: u32) -> bool {
+        if k >= self.graph.node_count() {
+            return false;
+        }
+        match self.tables.stack.kept.get(self.graph.owner(k)) {
+            Some(kept) => kept.get(number as usize).copied().unwrap_or(false),
+            None => false,
+        }
+    }
+
     /// Whether nothing is stored to the words of functions that wait, from a node to the return.
     pub fn is_spared(&self, k: usize) -> bool {
         self.tables.stack.spared.get(k).copied().unwrap_or(false)

@@ -204,8 +204,8 @@ fn storing_of(scope: &Scope<'_>, k: usize) -> Option<Storing> {
     }
 }
 
-/// Whether the instruction of a node stores nothing to a word of the stack: by the intervals, by the name of the register that has the address, or by how
-/// far above what x2 had when the function began it points.
+/// Whether the instruction of a node stores nothing to a word of the stack: by the intervals, by the name of the register that has the address, by how
+/// far above what x2 had when the function began it points, or since that is taken so.
 pub fn is_missed(scope: &Scope<'_>, k: usize, number: u32) -> bool {
     let Some(storing) = storing_of(scope, k) else {
         return true;
@@ -221,6 +221,7 @@ pub fn is_missed(scope: &Scope<'_>, k: usize, number: u32) -> bool {
     are_apart(named, width, one)
         || are_apart(storing.above, width, one)
         || are_apart(storing.at, width, words)
+        || (scope.is_doubtful(k) && scope.is_kept(k, number))
 }
 
 // Whether an interval is short enough to be kept.
@@ -259,7 +260,10 @@ fn is_held(scope: &Scope<'_>, k: usize, number: u32) -> bool {
 
 /// Whether a call at a node keeps a word of the stack.
 pub fn is_safe(scope: &Scope<'_>, k: usize, callee: Callee, number: u32) -> bool {
-    scope.is_spared(callee.entry) && is_placed(scope, k, number) && is_held(scope, k, number)
+    scope.is_spared(callee.entry)
+        && scope.is_kept(k, number)
+        && is_placed(scope, k, number)
+        && is_held(scope, k, number)
 }
 
 // How far above what x2 had when the function began a load's address is.

@@ -3,6 +3,7 @@
 ghost use Rattle.std.specs.Prelude.{◌<◌};
 
 use crate::apart::{is_below, opposite_of};
+use crate::doubts::{Words, is_kept};
 use crate::names::{begun_names, name_of, offset_of};
 use crate::passing::Step;
 use crate::rows::{passed_row, unknown};
@@ -45,6 +46,8 @@ pub struct CallSite<'a> {
     pub from: &'a Facts,
     pub begins: Option<Arc>,
     pub limit: usize,
+    /// Of the words, those that are kept. All are, where there are none.
+    pub kept: Option<&'a Words>,
 }
 
 impl CallSite<'_> {
@@ -71,6 +74,11 @@ impl CallSite<'_> {
         }
     }
 
+    /// Whether a word is one that any call keeps.
+    pub fn is_kept(&self, k: usize) -> bool {
+        self.kept.is_none() || is_kept(self.kept, k)
+    }
+
     /// Whether the function gives a register back.
     pub fn is_restored(&self, callee: &Callee<'_>, r: u8) -> bool {
         let restored = callee.restored;
@@ -92,7 +100,7 @@ impl CallSite<'_> {
         }
         let name = name_of(&self.from.names, r);
         match name {
-            Some(Name::OfWord(k, _)) if k as usize >= kept => None,
+            Some(Name::OfWord(k, _)) if k as usize >= kept || !self.is_kept(k as usize) => None,
             _ => name,
         }
     }
@@ -117,6 +125,8 @@ pub fn come_back(site: &CallSite<'_>, callee: &Callee<'_>, to: &mut State) {
     }
     to.forget_words();
     for k in 0..kept.min(site.from.words.len()) {
-        to.set_word(k, site.from.word(k));
+        if site.is_kept(k) {
+            to.set_word(k, site.from.word(k));
+        }
     }
 }

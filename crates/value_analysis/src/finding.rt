@@ -14,7 +14,7 @@ use crate::narrowing::narrow;
 use crate::program::{Program, read_program};
 use crate::rows::{copy_of, unknown};
 use crate::shifting::{measures_of, shift_lines, shifts_of};
-use crate::sparing::{added_span, kept_place, spare};
+use crate::sparing::{added_span, is_doubtful, kept_place, spare};
 use crate::states::{State, facts_of};
 use crate::tables::Tables;
 use elf_image::ImageView;
@@ -23,6 +23,7 @@ use loop_forest::LoopTree;
 use scale_base::NoMemory;
 use stack_tables::FixedPart;
 use std::alloc::Global;
+use wrapped_intervals::Arc;
 
 /// How often intervals are narrowed.
 const NARROWED: usize = 2;
@@ -37,7 +38,7 @@ fn blank_tables(alloc: Global, nodes: usize, functions: usize) -> Result<Tables,
     let mut tables = Tables::none(alloc);
     tables.add_nodes(facts_of(alloc, nodes, unknown())?)?;
     for _ in 0..functions {
-        tables.add_function(unknown(), None, [false; 32])?;
+        tables.add_function(unknown(), None, [false; 32], [true; 64])?;
     }
     tables.values.live = vec![in alloc; true; nodes]?;
     tables.stack.spared = vec![in alloc; false; nodes]?;
@@ -53,6 +54,19 @@ fn spared_nodes(alloc: Global, growth: &Growth<'_>, any: bool) -> Result<Vec<boo
         spared.push(any && known.is_some_and(|known| known.sparing))?;
     }
     Ok(spared)
+}
+
+// By node, whether what it stores is taken to miss the words that are kept.
+fn doubtful_nodes(
+    alloc: Global,
+    growth: &Growth<'_>,
+    place: &Option<Arc>,
+) -> Result<Vec<bool>, NoMemory> {
+    let mut doubtful = Vec::new(alloc);
+    for k in 0..growth.live.len() {
+        doubtful.push(is_doubtful(growth, place, k))?;
+    }
+    Ok(doubtful)
 }
 
 // Adds the span of the register by which a node stores, where it is known by its interval.
@@ -80,9 +94,10 @@ fn tables_of(alloc: Global, growth: Growth<'_>) -> Result<Tables, NoMemory> {
     let mut tables = Tables::none(alloc);
     tables.stack.place = kept_place(&growth);
     tables.stack.spared = spared_nodes(alloc, &growth, tables.stack.place.is_some())?;
-    tables.stack.doubtful = vec![in alloc; false; growth.live.len()]?;
-    for known in &growth.known {
-        tables.add_function(copy_of(&known.exit), known.begins, known.restored)?;
+    tables.stack.doubtful = doubtful_nodes(alloc, &growth, &tables.stack.place)?;
+    for (f, known) in growth.known.iter().enumerate() {
+        let kept = growth.kept_of(f).copied().unwrap_or([true; 64]);
+        tables.add_function(copy_of(&known.exit), known.begins, known.restored, kept)?;
     }
     let forms = growth.forms;
     let mut nodes = growth.facts;
@@ -144,13 +159,15 @@ fn forms_of(alloc: Global, program: &Program, tree: &LoopTree) -> Result<Forms, 
     Ok(forms)
 }
 
-/// A program that is analysed: its image, the bytes of it that no store changes, its nodes and ways, and the sums of two registers that are looked for.
+/// A program that is analysed: its image, the bytes of it that no store changes, its nodes and ways, the sums of two registers that are looked for, and whether
+/// stores of which nothing is known are taken to miss the words that are kept.
 #[derive(Clone, Copy)]
 struct Analysed<'a> {
     view: &'a ImageView<'a>,
     fixed: &'a [FixedPart],
     program: &'a Program,
     forms: &'a Forms,
+    trusts: bool,
 }
 
 impl Analysed<'_> {
@@ -169,6 +186,7 @@ impl Analysed<'_> {
             self.view,
             self.fixed,
             cells,
+            self.trusts,
         )?;
         let mut state = State::blank();
         if !find_states(alloc, &mut growth, &mut state)? {
@@ -192,6 +210,7 @@ impl Analysed<'_> {
             self.view,
             self.fixed,
             cells,
+            self.trusts,
         )?;
         let mut state = State::blank();
         if !find_states(alloc, &mut growth, &mut state)? {
@@ -237,18 +256,21 @@ pub fn analyse(alloc: Global, view: &ImageView<'_>, graph: &CodeGraph) -> Result
         fixed: &fixed,
         program: &program,
         forms: &forms,
+        trusts: false,
     };
     let mut tables = analysed.analyse(alloc)?;
     tables.stack.fixed = fixed;
     Ok(tables)
 }
 
-/// Tables of a program, with sums of two registers by which its loops may end.
+/// Tables of a program, with sums of two registers by which its loops may end. They may take it that stores of which nothing is known miss some words of the stack,
+/// which they name.
 pub fn analyse_loops(
     alloc: Global,
     view: &ImageView<'_>,
     graph: &CodeGraph,
     tree: &LoopTree,
+    trusts: bool,
 ) -> Result<Tables, NoMemory> {
     let program = read_program(alloc, view, graph)?;
     let forms = forms_of(alloc, &program, tree)?;
@@ -258,6 +280,7 @@ pub fn analyse_loops(
         fixed: &fixed,
         program: &program,
         forms: &forms,
+        trusts,
     };
     let mut tables = analysed.analyse(alloc)?;
     tables.stack.fixed = fixed;

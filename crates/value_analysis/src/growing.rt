@@ -7,6 +7,7 @@ use crate::arcs::holds;
 use crate::areas::{access_of, areas_of};
 use crate::calls::{CallSite, Callee, come_back, enter};
 use crate::cells::Cells;
+use crate::doubts::{Words, kept_words};
 use crate::dwindling::Dwindled;
 use crate::fixed::put_fixed;
 use crate::forms::Forms;
@@ -15,7 +16,7 @@ use crate::joining::{Change, Counts, Growing, Pace, grow_arc, grow_plain_row, wo
 use crate::lines::{Tracing, line_in};
 use crate::names::{Names, begun_name, begun_names, name_of};
 use crate::orders::{leaving_order, places_of};
-use crate::passing::{Step, pass};
+use crate::passing::{Frame, Step, pass};
 use crate::program::{Node, Program};
 use crate::rows::{put_row, starting_row, unknown, zeros};
 use crate::states::{Facts, State, WORD_COUNT, facts_of};
@@ -136,6 +137,8 @@ pub struct Growth<'a> {
     haste: usize,
     /// How many words more may be known, at all nodes together.
     room: usize,
+    /// By function, the words that are kept which stores of which nothing is known are taken to miss, where they are.
+    kept: Option<Vec<Words>>,
 }
 
 // By function, no thresholds yet.
@@ -156,6 +159,7 @@ impl<'a> Growth<'a> {
         view: &'a ImageView<'a>,
         fixed: &'a [FixedPart],
         cells: Cells,
+        trusts: bool,
     ) -> Result<Growth<'a>, NoMemory> {
         let nodes = program.nodes.len();
         let functions = program.entries.len();
@@ -182,6 +186,11 @@ impl<'a> Growth<'a> {
             flowed: 0,
             haste: nodes.saturating_mul(60).saturating_add(100_000),
             room: MOST_WORDS.saturating_sub(nodes.saturating_mul(WORDS_OF_A_NODE)),
+            kept: if trusts {
+                Some(kept_words(alloc, program)?)
+            } else {
+                None
+            },
         })
     }
 
@@ -230,6 +239,22 @@ impl<'a> Growth<'a> {
         self.known.get(f).and_then(|known| known.begins)
     }
 
+    /// The words of a function that are kept which stores of which nothing is known are taken to miss, where they are.
+    pub fn kept_of(&self, f: usize) -> Option<&Words> {
+        match &self.kept {
+            Some(kept) => kept.get(f),
+            None => None,
+        }
+    }
+
+    // The frame of a function.
+    fn frame(&self, f: usize) -> Frame<'_> {
+        Frame {
+            begins: self.begins(f),
+            kept: self.kept_of(f),
+        }
+    }
+
     /// A call at a node.
     pub fn site(&self, node: &Node, k: usize) -> Option<CallSite<'_>> {
         let known = self.known.get(node.function)?;
@@ -238,6 +263,7 @@ impl<'a> Growth<'a> {
             from: self.facts.get(k)?,
             begins: known.begins,
             limit: known.limit,
+            kept: self.kept_of(node.function),
         })
     }
 
@@ -267,7 +293,7 @@ impl<'a> Growth<'a> {
         let (Some(step), Some(from)) = (self.step(node, way), self.facts.get(way.from)) else {
             return false;
         };
-        if !pass(step, from, self.begins(node.function), &self.areas, to) {
+        if !pass(step, from, self.frame(node.function), &self.areas, to) {
             return false;
         }
         self.tell(step, from, way, to);

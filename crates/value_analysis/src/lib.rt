@@ -12,6 +12,7 @@ mod calls;
 mod cells;
 mod copies;
 mod dividing;
+mod doubts;
 mod dwindling;
 mod finding;
 mod fixed;

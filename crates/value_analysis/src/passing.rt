@@ -5,6 +5,7 @@ ghost use Rattle.std.specs.Prelude.{◌≡◌, ◌<◌};
 use crate::apart::{raised, summed};
 use crate::arcs::{only, shorter};
 use crate::areas::{Access, access_of};
+use crate::doubts::{Words, is_kept};
 use crate::names::{begun_name, name_of, offset_of, raised_name};
 use crate::rows::{passed_row, passed_word};
 use crate::states::{Facts, State, UNKNOWN_WORD};
@@ -21,13 +22,15 @@ pub struct Step {
     pub next: u32,
 }
 
-// A step from a node: what is known there, where it stores, and the word and the register if it stores one.
+// A step from a node: what is known there, where it stores, which words are kept that stores of which nothing is known are taken to miss, where they are, and the word
+// and the register if it stores one.
 #[derive(Clone, Copy)]
 struct Passing<'a> {
     step: Step,
     from: &'a Facts,
     begins: Option<Arc>,
     target: Option<Target>,
+    kept: Option<&'a Words>,
     stored: Option<(usize, u8)>,
 }
 
@@ -41,7 +44,9 @@ impl Passing<'_> {
     // Whether the word is not stored to.
     fn misses(&self, k: usize) -> bool {
         match self.target {
-            Some(target) => target.misses(&self.begins, k),
+            Some(target) => {
+                target.misses(&self.begins, k) || (target.is_unknown() && is_kept(self.kept, k))
+            }
             None => true,
         }
     }
@@ -243,15 +248,23 @@ impl Passing<'_> {
     }
 }
 
+/// Of the function of a node: what x2 has when it begins, and which words are kept that stores of which nothing is known are taken to miss, where they are.
+#[derive(Clone, Copy)]
+pub struct Frame<'a> {
+    pub begins: Option<Arc>,
+    pub kept: Option<&'a Words>,
+}
+
 /// What an instruction that is no call leaves on the way to an address, with where loads and stores may be. Whether a state goes there.
-pub fn pass(step: Step, from: &Facts, begins: Option<Arc>, areas: &[Arc], to: &mut State) -> bool {
+pub fn pass(step: Step, from: &Facts, frame: Frame<'_>, areas: &[Arc], to: &mut State) -> bool {
     let Some(row) = passed_row(step.instr, step.at, step.next, &from.row) else {
         return false;
     };
     let passing = Passing {
         step,
         from,
-        begins,
+        begins: frame.begins,
+        kept: frame.kept,
         target: target_of(step.instr, &from.row, &from.names, &from.spans),
         stored: stored_word(step.instr, &from.names),
     };

@@ -4,6 +4,7 @@ ghost use Rattle.std.specs.Prelude.{◌<◌};
 
 use crate::apart::raised;
 use crate::arcs::{holds, joined};
+use crate::doubts::Words;
 use crate::growing::Growth;
 use crate::program::{Node, Program};
 use crate::states::{State, UNKNOWN_WORD};
@@ -157,12 +158,39 @@ enum Verdict {
     Calls,
 }
 
+// Whether a store misses those words, or is taken to.
+fn is_spared(growth: &Growth<'_>, node: &Node, target: &Target, place: &Option<Arc>) -> bool {
+    target.spares(&growth.begins(node.function), place)
+        || (target.is_unknown() && growth.kept_of(node.function).is_some())
+}
+
+// Whether a store may be to a word of its function that is kept.
+fn may_store(target: &Target, begins: &Option<Arc>, kept: &Words) -> bool {
+    (0..64).any(|k| kept[k] && !target.misses(begins, k))
+}
+
+/// Whether what a node stores is taken to miss all words that are kept: nothing is known of it, and nothing else says it.
+pub fn is_doubtful(growth: &Growth<'_>, place: &Option<Arc>, k: usize) -> bool {
+    let Some(node) = growth.program.node(k) else {
+        return false;
+    };
+    let (Some(target), Some(kept)) = (target_at(growth, &node, k), growth.kept_of(node.function))
+    else {
+        return false;
+    };
+    let begins = growth.begins(node.function);
+    growth.is_live(k)
+        && target.is_unknown()
+        && (may_store(&target, &begins, kept)
+            || (place.is_some() && !target.spares(&begins, place)))
+}
+
 fn judge(growth: &Growth<'_>, place: &Option<Arc>, k: usize) -> Verdict {
     let Some(node) = growth.program.node(k) else {
         return Verdict::Spares;
     };
     if let Some(target) = target_at(growth, &node, k) {
-        if place.is_some() && !target.spares(&growth.begins(node.function), place) {
+        if place.is_some() && !is_spared(growth, &node, &target, place) {
             return Verdict::Stores(target);
         }
     }

@@ -14,6 +14,9 @@ const READ: u64 = 63;
 /// How many bytes it stores at most.
 const MOST_READ: u64 = 256;
 
+/// Of a store in an interval that is as long as this nothing is known.
+const LONG: u64 = 4_096;
+
 /// Where an instruction stores: how far above the function's first x2, where that is known, or within which interval; at which addresses; and how many
 /// bytes at most.
 #[derive(Clone, Copy)]
@@ -193,6 +196,15 @@ impl Target {
     /// Whether its addresses miss words at these.
     pub fn is_apart(&self, words: Option<Arc>) -> bool {
         are_apart(self.arc, self.most, words)
+    }
+
+    /// Whether nothing is known of where it is: it isn't so far above the function's first x2, nor within a short interval.
+    pub fn is_unknown(&self) -> bool {
+        let is_span_long = match self.span {
+            Some(span) => span.more() >= LONG,
+            None => true,
+        };
+        self.offset.is_none() && is_span_long && !self.is_shorter(LONG)
     }
 
     /// Whether its addresses are in an interval that is shorter.

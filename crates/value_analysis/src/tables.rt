@@ -98,17 +98,18 @@ impl Tables {
         self.stack.dwindling.reverse();
     }
 
-    /// Adds what is known of the next function: at its returns, of x2 when it begins, and which registers it gives back.
+    /// Adds what is known of the next function: at its returns, of x2 when it begins, which registers it gives back, and which of its words are kept.
     pub fn add_function(
         &mut self,
         exit: Row,
         begins: Option<Arc>,
         restored: [bool; 32],
+        kept: [bool; 64],
     ) -> Result<(), NoMemory> {
         self.values.exits.push(exit)?;
         self.stack.begins.push(begins)?;
         self.stack.restored.push(restored)?;
-        self.stack.kept.push([true; 64])?;
+        self.stack.kept.push(kept)?;
         Ok(())
     }
 }
