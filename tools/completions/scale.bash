@@ -30,7 +30,7 @@ _scale_words() {
 # The options of a command that begin with a word of their own.
 _scale_options() {
     case $1 in
-    "pace loops") echo "--input-bytes" ;;
+    "pace loops") echo "--input-bytes --trust-stores" ;;
     "pace fit") echo "--versions" ;;
     "pace all") echo "--input-bytes --no-versions" ;;
     esac

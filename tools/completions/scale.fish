@@ -65,6 +65,7 @@ for program in scale pace
 end
 
 complete -c pace -n "__fish_seen_subcommand_from loops all" -l input-bytes -x -d "Take it that no input has more bytes"
+complete -c pace -n "__fish_seen_subcommand_from loops" -l trust-stores -d "Trust stores of which nothing is known, where that bounds more"
 complete -c pace -n "__fish_seen_subcommand_from fit" -l versions -d "Try images in which code is there twice, too"
 complete -c pace -n "__fish_seen_subcommand_from all" -l no-versions -d "Try no images in which code is there twice"
 

@@ -6,7 +6,7 @@ pub mod Keys
 pub mod Lists
 pub mod Counts
 pub mod Keeping
-pub mod Trusting
+pub mod Untrusting
 pub mod Turning
 pub mod Promises
 pub mod Laws

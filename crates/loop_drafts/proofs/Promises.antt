@@ -24,7 +24,7 @@ use Rattle.loop_drafts.specs.Countable.{AreCounted, AreCountable}
 use Rattle.loop_drafts.proofs.Counts.{all_counted, none_open}
 use Rattle.loop_drafts.proofs.Keeping.{greater_kept, fewer_kept, returns_kept, returns_back}
 use Rattle.loop_drafts.proofs.Turning.{shown_too}
-use Rattle.loop_drafts.proofs.Trusting.{trust_before}
+use Rattle.loop_drafts.proofs.Untrusting.{trust_before}
 use Rattle.loop_drafts.proofs.SameCounts.{counts_free}
 
 ok_same : {A B : Type 0} (o : Result A B) (x y : A) → o ≡ Ok x → o ≡ Ok y → x ≡ y

@@ -70,7 +70,7 @@ impl Trusted<'_> {
             return Ok(());
         }
         text.push_str(
-            "# all that is proved here is so of runs in which no trusted store changes a kept word of a function that runs or waits for a call; a word is told by how many bytes it is below the caller's sp\n",
+            "# what is proved here is so of runs in which no trusted store changes a kept word\n",
         )?;
         self.push_stores(text, remarks)?;
         for f in 0..self.graph.function_count().min(MOST_TOLD) {

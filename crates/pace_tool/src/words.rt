@@ -110,7 +110,7 @@ fn loops_line<'a>(alloc: Global) -> Result<CommandLine<'a>, AllocError> {
             .long("trust-stores")
             .action(ArgAction::SetTrue)
             .help(
-                "Takes it that stores of which nothing is known change no word of the stack that is kept, where that bounds more loops: the file names both",
+                "Trusts stores of which nothing is known to change no word of a frame that the file names",
             ),
     )
 }

@@ -1,4 +1,4 @@
-use Rattle.loop_drafts.proofs.Trusting.{nothing_trusted}
+use Rattle.loop_drafts.proofs.Untrusting.{nothing_trusted}
 use Rattle.loop_drafts.proofs.nothing_is_trusted.Goals as goal
 
 pub returns : goal.returns
