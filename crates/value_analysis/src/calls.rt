@@ -3,7 +3,7 @@
 ghost use Rattle.std.specs.Prelude.{◌<◌};
 
 use crate::apart::{is_below, opposite_of};
-use crate::doubts::{Words, is_kept};
+use crate::doubts::{Kept, is_kept};
 use crate::names::{begun_names, name_of, offset_of};
 use crate::passing::Step;
 use crate::rows::{passed_row, unknown};
@@ -47,7 +47,7 @@ pub struct CallSite<'a> {
     pub begins: Option<Arc>,
     pub limit: usize,
     /// Of the words, those that are kept. All are, where there are none.
-    pub kept: Option<&'a Words>,
+    pub kept: Option<&'a Kept>,
 }
 
 impl CallSite<'_> {

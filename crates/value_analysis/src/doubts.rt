@@ -9,13 +9,30 @@ use scale_base::{ImmOp, Instr, LoadOp, NoMemory, RegOp, StoreOp};
 use stack_tables::word_number;
 use std::alloc::Global;
 
-/// By number, whether a word of a function's stack is kept.
-pub type Words = [bool; 64];
+/// By number, whether a word of a function's stack is one of those that are meant.
+type Words = [bool; 64];
+
+/// Of a function: the words of its stack that are kept, and whether it has a frame pointer, x8.
+#[derive(Clone, Copy)]
+pub struct Kept {
+    pub words: Words,
+    pointed: bool,
+}
+
+impl Kept {
+    /// Whether a store by a register may be taken to miss the words: one by a pointer of the frame stores to the frame, wherever that is.
+    pub fn may_doubt(&self, i: Instr) -> bool {
+        match i {
+            Instr::Store { rs1, .. } => rs1 != 2 && !(rs1 == 8 && self.pointed),
+            _ => true,
+        }
+    }
+}
 
 /// Whether a word is kept, where any are.
-pub fn is_kept(words: Option<&Words>, k: usize) -> bool {
-    match words {
-        Some(words) => words.get(k).copied().unwrap_or(false),
+pub fn is_kept(kept: Option<&Kept>, k: usize) -> bool {
+    match kept {
+        Some(kept) => kept.words.get(k).copied().unwrap_or(false),
         None => false,
     }
 }
@@ -46,8 +63,9 @@ struct Found {
     // the words at which arrays may begin
     arrays: Words,
     values: [Value; 32],
-    // whether the code is still that which begins the function
+    // whether the code is still that which begins the function, and whether x8 is a pointer of the frame
     begins: bool,
+    pointed: bool,
 }
 
 // Notes a word.
@@ -89,6 +107,7 @@ impl Found {
             arrays: [false; 64],
             values,
             begins: true,
+            pointed: false,
         }
     }
 
@@ -172,6 +191,8 @@ impl Found {
         if let Value::Frame(at) = value {
             if at != 0 {
                 note(&mut self.arrays, at);
+            } else if rd == 8 {
+                self.pointed = true;
             }
             self.put(rd, value);
         } else if !self.is_pointer(rd) {
@@ -254,13 +275,16 @@ impl Found {
     }
 
     // The words that are kept: those in which registers are saved, and those that are stored and loaded by themselves and are no part of an array.
-    fn kept(&self) -> Words {
+    fn kept(&self) -> Kept {
         let arrays = self.array_words();
         let mut words = [false; 64];
         for k in 0..64 {
             words[k] = self.saved[k] || (self.stored[k] && self.loaded[k] && !arrays[k]);
         }
-        words
+        Kept {
+            words,
+            pointed: self.pointed,
+        }
     }
 }
 
@@ -282,7 +306,7 @@ fn is_joined(program: &Program, k: usize) -> bool {
 }
 
 /// By function, the words that are kept.
-pub fn kept_words(alloc: Global, program: &Program) -> Result<Vec<Words>, NoMemory> {
+pub fn kept_words(alloc: Global, program: &Program) -> Result<Vec<Kept>, NoMemory> {
     let functions = program.entries.len();
     let mut found = vec![in alloc; Found::begun(); functions]?;
     for (k, node) in program.nodes.iter().enumerate() {

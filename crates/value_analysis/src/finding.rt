@@ -96,7 +96,10 @@ fn tables_of(alloc: Global, growth: Growth<'_>) -> Result<Tables, NoMemory> {
     tables.stack.spared = spared_nodes(alloc, &growth, tables.stack.place.is_some())?;
     tables.stack.doubtful = doubtful_nodes(alloc, &growth, &tables.stack.place)?;
     for (f, known) in growth.known.iter().enumerate() {
-        let kept = growth.kept_of(f).copied().unwrap_or([true; 64]);
+        let kept = match growth.kept_of(f) {
+            Some(kept) => kept.words,
+            None => [true; 64],
+        };
         tables.add_function(copy_of(&known.exit), known.begins, known.restored, kept)?;
     }
     let forms = growth.forms;

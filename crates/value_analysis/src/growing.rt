@@ -7,7 +7,7 @@ use crate::arcs::holds;
 use crate::areas::{access_of, areas_of};
 use crate::calls::{CallSite, Callee, come_back, enter};
 use crate::cells::Cells;
-use crate::doubts::{Words, kept_words};
+use crate::doubts::{Kept, kept_words};
 use crate::dwindling::Dwindled;
 use crate::fixed::put_fixed;
 use crate::forms::Forms;
@@ -138,7 +138,7 @@ pub struct Growth<'a> {
     /// How many words more may be known, at all nodes together.
     room: usize,
     /// By function, the words that are kept which stores of which nothing is known are taken to miss, where they are.
-    kept: Option<Vec<Words>>,
+    kept: Option<Vec<Kept>>,
 }
 
 // By function, no thresholds yet.
@@ -240,7 +240,7 @@ impl<'a> Growth<'a> {
     }
 
     /// The words of a function that are kept which stores of which nothing is known are taken to miss, where they are.
-    pub fn kept_of(&self, f: usize) -> Option<&Words> {
+    pub fn kept_of(&self, f: usize) -> Option<&Kept> {
         match &self.kept {
             Some(kept) => kept.get(f),
             None => None,

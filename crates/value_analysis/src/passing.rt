@@ -5,7 +5,7 @@ ghost use Rattle.std.specs.Prelude.{◌≡◌, ◌<◌};
 use crate::apart::{raised, summed};
 use crate::arcs::{only, shorter};
 use crate::areas::{Access, access_of};
-use crate::doubts::{Words, is_kept};
+use crate::doubts::{Kept, is_kept};
 use crate::names::{begun_name, name_of, offset_of, raised_name};
 use crate::rows::{passed_row, passed_word};
 use crate::states::{Facts, State, UNKNOWN_WORD};
@@ -30,7 +30,7 @@ struct Passing<'a> {
     from: &'a Facts,
     begins: Option<Arc>,
     target: Option<Target>,
-    kept: Option<&'a Words>,
+    kept: Option<&'a Kept>,
     stored: Option<(usize, u8)>,
 }
 
@@ -41,12 +41,19 @@ pub fn is_restorable(r: u8) -> bool {
 }
 
 impl Passing<'_> {
+    // Whether a store is taken to miss the word.
+    fn is_doubted(&self, target: &Target, k: usize) -> bool {
+        let may_doubt = match self.kept {
+            Some(kept) => kept.may_doubt(self.step.instr),
+            None => false,
+        };
+        may_doubt && target.is_unknown() && is_kept(self.kept, k)
+    }
+
     // Whether the word is not stored to.
     fn misses(&self, k: usize) -> bool {
         match self.target {
-            Some(target) => {
-                target.misses(&self.begins, k) || (target.is_unknown() && is_kept(self.kept, k))
-            }
+            Some(target) => { target.misses(&self.begins, k) || self.is_doubted(&target, k) }
             None => true,
         }
     }
@@ -252,7 +259,7 @@ impl Passing<'_> {
 #[derive(Clone, Copy)]
 pub struct Frame<'a> {
     pub begins: Option<Arc>,
-    pub kept: Option<&'a Words>,
+    pub kept: Option<&'a Kept>,
 }
 
 /// What an instruction that is no call leaves on the way to an address, with where loads and stores may be. Whether a state goes there.

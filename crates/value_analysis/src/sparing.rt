@@ -4,7 +4,7 @@ ghost use Rattle.std.specs.Prelude.{◌<◌};
 
 use crate::apart::raised;
 use crate::arcs::{holds, joined};
-use crate::doubts::Words;
+use crate::doubts::Kept;
 use crate::growing::Growth;
 use crate::program::{Node, Program};
 use crate::states::{State, UNKNOWN_WORD};
@@ -158,15 +158,22 @@ enum Verdict {
     Calls,
 }
 
+// Whether a store may be taken to miss words: nothing is known of it.
+fn is_doubted(growth: &Growth<'_>, node: &Node, target: &Target) -> bool {
+    match growth.kept_of(node.function) {
+        Some(kept) => kept.may_doubt(node.instr) && target.is_unknown(),
+        None => false,
+    }
+}
+
 // Whether a store misses those words, or is taken to.
 fn is_spared(growth: &Growth<'_>, node: &Node, target: &Target, place: &Option<Arc>) -> bool {
-    target.spares(&growth.begins(node.function), place)
-        || (target.is_unknown() && growth.kept_of(node.function).is_some())
+    target.spares(&growth.begins(node.function), place) || is_doubted(growth, node, target)
 }
 
 // Whether a store may be to a word of its function that is kept.
-fn may_store(target: &Target, begins: &Option<Arc>, kept: &Words) -> bool {
-    (0..64).any(|k| kept[k] && !target.misses(begins, k))
+fn may_store(target: &Target, begins: &Option<Arc>, kept: &Kept) -> bool {
+    (0..64).any(|k| kept.words[k] && !target.misses(begins, k))
 }
 
 /// Whether what a node stores is taken to miss all words that are kept: nothing is known of it, and nothing else says it.
@@ -180,7 +187,7 @@ pub fn is_doubtful(growth: &Growth<'_>, place: &Option<Arc>, k: usize) -> bool {
     };
     let begins = growth.begins(node.function);
     growth.is_live(k)
-        && target.is_unknown()
+        && is_doubted(growth, &node, &target)
         && (may_store(&target, &begins, kept)
             || (place.is_some() && !target.spares(&begins, place)))
 }
