@@ -267,7 +267,7 @@ fn push_trusted(text: &mut String, trusted: usize) -> Result<(), AllocError>
 
 // The piece that begins the file.
 fn first_piece(alloc: Global, first: FirstLines<'_>) -> Result<Piece, NoMemory>
-    ensures { IfOk result (λ piece. printed_piece piece ≡ first_lines first.most first.returns (trusted_stores first.trusted.trust.now)) }
+    ensures { IfOk result (λ piece. printed_piece piece ≡ first_lines first.entry.most first.entry.returns (trusted_stores first.entry.trusted.trust.now)) }
 {
     let mut text = String::from_str(alloc, returns_line(first.returns))?;
     push_most(&mut text, first.most)?;
