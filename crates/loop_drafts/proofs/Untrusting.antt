@@ -1,13 +1,17 @@
--- Where no store is trusted, nothing has to be so of a run.
-use Rattle.std.proofs.Common.{◌≡◌, ℕ, ◌+◌, ◌≤◌, Bool, true, false, List, [], ◌∷◌, refl, sym, ◌∙◌, arith}
-use Rattle.std.specs.Prelude.{count_by, nat_eq, if◌then◌else◌}
+-- Where no store is trusted, nothing has to be so of a run; and what tables trust.
+use Rattle.std.proofs.Common.{◌≡◌, ℕ, ◌+◌, ◌≤◌, Bool, true, false, List, [], ◌∷◌, refl, sym, ap, ◌∙◌, arith}
+use Rattle.std.specs.Prelude.{count_by, nat_eq, slice_get, if◌then◌else◌}
 use Rattle.std.proofs.lemmas.List.Sums.{sum_by-cons}
 use Rattle.scale_base.specs.Image.{Image}
 use Rattle.scale_base.specs.Run.{setting_of, start_of}
-use Rattle.value_checks.specs.Tables.{beside}
+use Rattle.cost_theory.specs.Reached.{Code}
+use Rattle.value_checks.specs.declared.tables.ValueTable.{ValueTable}
+use Rattle.value_checks.specs.Tables.{beside, flag, or_other, values_of}
+use Rattle.stack_tables.specs.declared.tables.StackTable.{StackTable}
+use Rattle.stack_tables.specs.Tables.{stacks_of}
 use Rattle.stack_laws.proofs.Laws.{certain_tidy, tidy_up_to}
 use Rattle.loop_drafts.specs.declared.trusting.Trust.{Trust}
-use Rattle.loop_drafts.specs.Trusting.{IsTrustKept, NothingIsTrusted}
+use Rattle.loop_drafts.specs.Trusting.{IsTrustKept, IsTrustOf, NothingIsTrusted, Trusts}
 
 first_none : (x : Bool) (others : ℕ) → (if x then 1 else 0) + others ≡ 0 → x ≡ false
 first_none true others none = absurd (omega arith)
@@ -38,3 +42,12 @@ nothing_trusted original trust levels input n none code v w reached of =
 pub trust_before : (original : Image) (trust : Trust) (levels : ℕ) (input : List ℕ) (m n : ℕ) → m ≤ n → IsTrustKept original trust levels input n → IsTrustKept original trust levels input m
 trust_before original trust levels input m n le kept code v w reached of =
     tidy_up_to v w (setting_of original levels input) (start_of original levels) n m le (kept code v w reached of)
+
+-- what tables trust
+pub trust_shown : (code : Code) (table : ValueTable) (stack : StackTable) (trust : Trust) → Trusts stack trust → IsTrustOf code trust (values_of code table) (stacks_of code stack)
+trust_shown code table stack trust same = record {
+  functions = λ a. refl;
+  offsets = λ k. refl;
+  stores = λ a. ap (λ (flags : List Bool). beside false code.nodes flags a) (sym same.stores);
+  words = λ f k. ap (λ (rows : List (List Bool)). flag (or_other [] (slice_get rows f)) k) (sym same.words);
+}

@@ -5,13 +5,7 @@ use Rattle.loop_file.specs.declared.notes.LoopNote.{LoopNote}
 use Rattle.value_checks.specs.Tables.{values_of}
 use Rattle.stack_tables.specs.declared.claims.StackClaim.{StackClaim}
 use Rattle.stack_tables.specs.Tables.{stacks_of}
-use Rattle.loop_drafts.specs.declared.trusting.Trust.{Trust}
-use Rattle.loop_drafts.specs.Trusting.{trust_of}
 use Rattle.loop_drafts.specs.Bounds.{AreReturnsFound, IsBoundFound, IsBoundShown, IsLeastFound}
-
--- what the tables trust
-abbrev pub trust_in : StackClaim → Trust
-trust_in claim = trust_of claim.stack.now
 
 abbrev pub IsFoundBy : Option ℕ → StackClaim → LoopNote → Type 0
 IsFoundBy most claim note = IsBoundFound claim.view.now claim.graph.now.code (values_of claim.graph.now.code claim.table.now)

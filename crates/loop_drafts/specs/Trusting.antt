@@ -13,9 +13,10 @@ use Rattle.value_checks.specs.Tables.{beside, flag, or_other}
 use Rattle.stack_tables.specs.declared.tables.StackTable.{StackTable}
 use Rattle.loop_drafts.specs.declared.trusting.Trust.{Trust}
 
--- what tables trust
-abbrev pub trust_of : StackTable → Trust
-trust_of stack = record { stores = stack.doubtful; words = stack.kept }
+-- it is what tables trust
+pub record Trusts (stack : StackTable) (trust : Trust) : Type 0 where
+  pub stores : trust.stores.items ≡ stack.doubtful.items
+  pub words : trust.words.items ≡ stack.kept.items
 
 -- how many stores are trusted
 abbrev pub trusted_stores : Trust → ℕ

@@ -6,8 +6,8 @@ ghost use Rattle.code_text.specs.Text.{text_of};
 ghost use Rattle.flow_graph.specs.FlowGraph.{IsGraphOf};
 ghost use Rattle.stack_tables.specs.Tables.{IsStackClaim};
 ghost use Rattle.loop_drafts.specs.Bounds.{AreBoundsFound, AreNoneFound, IsOpen, NeedNotTurn};
-ghost use Rattle.loop_drafts.specs.Trusting.{AreNoneTrusted, IsAllowed, trust_of};
-ghost use Rattle.loop_drafts.specs.Sought.{AreFoundBy, AreLeastFoundBy, AreReturnsFoundBy, IsFoundBy, IsLeastFoundBy, trust_in};
+ghost use Rattle.loop_drafts.specs.Trusting.{AreNoneTrusted, IsAllowed};
+ghost use Rattle.loop_drafts.specs.Sought.{AreFoundBy, AreLeastFoundBy, AreReturnsFoundBy, IsFoundBy, IsLeastFoundBy};
 
 use crate::counting::dear_loops;
 use crate::draft::{Counter, Draft, Known, Place, Reason, Way};
@@ -25,7 +25,7 @@ use loop_tree::build_loops;
 use scale_base::{NoMemory, Stop};
 use shown_bounds::{StackCertificate, StackCounter, comes_back, is_shown};
 use stack_checks::is_stack_analysed;
-use stack_tables::{StackClaim, StackTable, is_stack_sized};
+use stack_tables::{StackClaim, is_stack_sized};
 use std::alloc::Global;
 use turn_checks::TurnKind;
 use value_analysis::{Tables, analyse_loops};
@@ -72,11 +72,11 @@ impl Bounds {
         Ok(())
     }
 
-    // The same, where tables trust what these do.
-    fn trusting(self, stack: StackTable) -> Bounds
+    // The same, where so much is trusted for it.
+    fn trusting(self, trust: Trust) -> Bounds
         ensures notes { result.notes ≡ self.notes }
         ensures returns { result.returns ≡ self.returns }
-        ensures trust { result.trust ≡ trust_of stack }
+        ensures trust { result.trust ≡ trust }
     {
         let Bounds {
             known,
@@ -88,7 +88,7 @@ impl Bounds {
             known,
             notes,
             returns,
-            trust: Trust::of(stack),
+            trust,
         }
     }
 
@@ -233,14 +233,15 @@ fn confirmed(
     })
 }
 
-/// What counters are looked for in, by loop whether counting it costs little of what its turns take, and how many bytes an input has at most, where that
-/// is told.
+/// What counters are looked for in, by loop whether counting it costs little of what its turns take, how many bytes an input has at most, where that is told,
+/// and whether stores may be trusted.
 #[derive(Clone, Copy)]
 struct Sources<'a> {
     tree: &'a LoopTree,
     tables: &'a Tables,
     dear: &'a [bool],
     most: Option<u32>,
+    trusts: bool,
 }
 
 impl Sources<'_> {
@@ -369,7 +370,8 @@ pub fn open_all(alloc: Global, notes: &LoopNotes, reason: Reason) -> Result<Boun
     Ok(bounds)
 }
 
-// The bounds of loops that are taken, by tables that have a row for each node and each function. What these trust isn't told.
+// The bounds of loops that are taken, by tables that have a row for each node and each function. Nothing is proved of what these trust, so that it is looked
+// at.
 fn bounds_by(
     alloc: Global,
     claim: &StackClaim<'_>,
@@ -377,12 +379,18 @@ fn bounds_by(
     notes: &LoopNotes,
 ) -> Result<Bounds, NoMemory>
     requires { IsStackClaim claim.now }
-    ensures found { IfOk result (λ b. AreBoundsFound claim.now.view.now sources.now.most b.notes.items b.returns (trust_in claim.now)) }
+    ensures found { IfOk result (λ b. AreBoundsFound claim.now.view.now sources.now.most b.notes.items b.returns b.trust) }
+    ensures allowed { IfOk result (λ b. IsAllowed sources.now.trusts b.trust) }
 {
     if !is_stack_analysed(claim) {
         return open_all(alloc, notes, Reason::NotAnalysed);
     }
-    seek_all(alloc, claim, sources, notes)
+    let trust = Trust::of(alloc, claim.stack)?;
+    if !sources.trusts && trust.count() > 0 {
+        return open_all(alloc, notes, Reason::NotAnalysed);
+    }
+    let bounds = seek_all(alloc, claim, sources, notes)?;
+    Ok(bounds.trusting(trust))
 }
 
 // By loop whether counting it costs little, where loops are to be counted.
@@ -399,14 +407,6 @@ fn loops_to_count(
     }
 }
 
-// A program whose loops are taken.
-#[derive(Clone, Copy)]
-struct Taken<'a> {
-    view: &'a ImageView<'a>,
-    graph: &'a CodeGraph,
-    tree: &'a LoopTree,
-}
-
 /// The notes of the loops whose bounds are looked for, whether some of them may be counted, how many bytes an input has at most, where that is told, and whether
 /// stores may be trusted.
 #[derive(Clone, Copy)]
@@ -417,38 +417,19 @@ pub struct Wanted<'a> {
     pub trusts: bool,
 }
 
-// What is found, where no more is trusted than may be. Nothing is proved of what is proposed, so that it is looked at.
-fn if_allowed(
-    alloc: Global,
-    view: &ImageView<'_>,
-    wanted: Wanted<'_>,
-    bounds: Bounds,
-    trusts: bool,
-) -> Result<Bounds, NoMemory>
-    requires { AreBoundsFound view.now wanted.most bounds.notes.items bounds.returns bounds.trust }
-    ensures found { IfOk result (λ b. AreBoundsFound view.now wanted.entry.most b.notes.items b.returns b.trust) }
-    ensures allowed { IfOk result (λ b. IsAllowed trusts b.trust) }
-{
-    if trusts || bounds.trust.count() == 0 {
-        Ok(bounds)
-    } else {
-        open_all(alloc, wanted.notes, Reason::NotAnalysed)
-    }
-}
-
 // The bounds of loops that are taken, by tables that trust stores or don't.
 fn bounds_in(
     alloc: Global,
-    program: Taken<'_>,
+    view: &ImageView<'_>,
+    graph: &CodeGraph,
+    tree: &LoopTree,
     wanted: Wanted<'_>,
-    trusts: bool,
 ) -> Result<Bounds, NoMemory>
-    requires { IsGraphOf (text_of program.view.now) program.graph.now }
-    ensures found { IfOk result (λ b. AreBoundsFound program.entry.view.now wanted.entry.most b.notes.items b.returns b.trust) }
-    ensures allowed { IfOk result (λ b. IsAllowed trusts b.trust) }
+    requires { IsGraphOf (text_of view.now) graph.now }
+    ensures found { IfOk result (λ b. AreBoundsFound view.now wanted.entry.most b.notes.items b.returns b.trust) }
+    ensures allowed { IfOk result (λ b. IsAllowed wanted.entry.trusts b.trust) }
 {
-    let Taken { view, graph, tree } = program;
-    let tables = analyse_loops(alloc, view, graph, tree, trusts)?;
+    let tables = analyse_loops(alloc, view, graph, tree, wanted.trusts)?;
     if !is_sized(graph, &tables.values) || !is_stack_sized(graph, &tables.stack) {
         return open_all(alloc, wanted.notes, Reason::NotAnalysed);
     }
@@ -465,22 +446,34 @@ fn bounds_in(
         tables: &tables,
         dear: &dear,
         most: wanted.most,
+        trusts: wanted.trusts,
     };
-    let bounds = bounds_by(alloc, &claim, &sources, wanted.notes)?;
-    if_allowed(alloc, view, wanted, bounds.trusting(tables.stack), trusts)
+    bounds_by(alloc, &claim, &sources, wanted.notes)
 }
 
 // The bounds of loops that are taken: by tables that trust no store, or by others, where these may be, and show more.
-fn bounds_of(alloc: Global, program: Taken<'_>, wanted: Wanted<'_>) -> Result<Bounds, NoMemory>
-    requires { IsGraphOf (text_of program.view.now) program.graph.now }
-    ensures found { IfOk result (λ b. AreBoundsFound program.entry.view.now wanted.entry.most b.notes.items b.returns b.trust) }
+fn bounds_of(
+    alloc: Global,
+    view: &ImageView<'_>,
+    graph: &CodeGraph,
+    tree: &LoopTree,
+    wanted: Wanted<'_>,
+) -> Result<Bounds, NoMemory>
+    requires { IsGraphOf (text_of view.now) graph.now }
+    ensures found { IfOk result (λ b. AreBoundsFound view.now wanted.entry.most b.notes.items b.returns b.trust) }
     ensures allowed { IfOk result (λ b. IsAllowed wanted.entry.trusts b.trust) }
 {
-    let plain = bounds_in(alloc, program, wanted, false)?;
+    let untrusting = Wanted {
+        notes: wanted.notes,
+        counts: wanted.counts,
+        most: wanted.most,
+        trusts: false,
+    };
+    let plain = bounds_in(alloc, view, graph, tree, untrusting)?;
     if !wanted.trusts || plain.is_whole() {
         return Ok(plain);
     }
-    let trusting = bounds_in(alloc, program, wanted, true)?;
+    let trusting = bounds_in(alloc, view, graph, tree, wanted)?;
     if trusting.shows_more(&plain) {
         Ok(trusting)
     } else {
@@ -501,14 +494,7 @@ pub fn find_bounds(
     ensures allowed { IfOk result (λ b. IsAllowed wanted.entry.trusts b.trust) }
 {
     match build_loops(alloc, graph, wanted.notes) {
-        Ok(tree) => {
-            let program = Taken {
-                view,
-                graph,
-                tree: &tree,
-            };
-            bounds_of(alloc, program, wanted)
-        }
+        Ok(tree) => bounds_of(alloc, view, graph, &tree, wanted),
         Err(Stop::Refused(_)) => open_all(alloc, wanted.notes, Reason::EnteredAside),
         Err(Stop::Memory) => Err(NoMemory),
     }

@@ -1,8 +1,9 @@
 //! What a draft trusts: stores of which nothing is known, taken to change no word of the stack that is kept.
 
-ghost use Rattle.std.specs.Prelude.{◌≡◌, count_by};
-ghost use Rattle.loop_drafts.specs.Trusting.{AreNoneTrusted, trust_of, trusted_stores};
+ghost use Rattle.std.specs.Prelude.{◌≡◌, count_by, IfOk};
+ghost use Rattle.loop_drafts.specs.Trusting.{AreNoneTrusted, Trusts, trusted_stores};
 
+use scale_base::NoMemory;
 use stack_tables::StackTable;
 use std::alloc::Global;
 
@@ -26,14 +27,13 @@ impl Trust {
     }
 
     /// What tables trust.
-    pub fn of(stack: StackTable) -> Trust
-        ensures { result ≡ trust_of stack }
+    pub fn of(alloc: Global, stack: &StackTable) -> Result<Trust, NoMemory>
+        ensures { IfOk result (Trusts stack.now) }
     {
-        let StackTable { doubtful, kept, .. } = stack;
-        Trust {
-            stores: doubtful,
-            words: kept,
-        }
+        Ok(Trust {
+            stores: Vec::from_slice(alloc, &stack.doubtful)?,
+            words: Vec::from_slice(alloc, &stack.kept)?,
+        })
     }
 
     /// How many stores are trusted.
