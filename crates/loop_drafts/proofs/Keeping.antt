@@ -1,5 +1,5 @@
 -- What a run of an image keeps of drafted bounds, and that its returns go back.
-use Rattle.std.proofs.Common.{◌≡◌, ℕ, ◌<◌, ◌≤◌, inr, List, length, Some, Ok, sym, ap, ◌∙◌, subst, arith}
+use Rattle.std.proofs.Common.{◌≡◌, ℕ, ◌<◌, ◌≤◌, inr, List, length, Some, Ok, sym, ◌∙◌, subst, arith}
 use Rattle.std.specs.Prelude.{All}
 use Rattle.scale_base.specs.Image.{Image, image_of}
 use Rattle.scale_base.specs.State.{Setting, State}

@@ -1,15 +1,14 @@
 -- What a draft trusts: stores of which nothing is known, taken to change no word of the stack that is kept. What is proved of its bounds and of returns is so
 -- of a run as long as that is so.
-use Rattle.std.specs.Prelude.{◌≡◌, ℕ, ◌+◌, ◌*◌, false, Bool, List, [], slice_get, count_by}
+use Rattle.std.specs.Prelude.{◌≡◌, ◌↔◌, ℕ, ◌+◌, ◌*◌, true, false, Bool, List, slice_get, count_by, option_and_then, Option, Some}
 use Rattle.scale_base.specs.Image.{Image}
 use Rattle.scale_base.specs.Run.{setting_of, start_of}
-use Rattle.cost_theory.specs.Reached.{Code, owner_of}
+use Rattle.cost_theory.specs.Reached.{Code, flag_beside, owner_of}
 use Rattle.code_text.specs.Text.{text_of}
 use Rattle.code_text.specs.TextGraph.{IsReachedCode}
 use Rattle.bound_laws.specs.Values.{Values, opposite_of}
 use Rattle.stack_laws.specs.Stacks.{Stacks}
 use Rattle.stack_laws.specs.Tidy.{IsTidy}
-use Rattle.value_checks.specs.Tables.{beside, flag, or_other}
 use Rattle.stack_tables.specs.declared.tables.StackTable.{StackTable}
 use Rattle.loop_drafts.specs.declared.trusting.Trust.{Trust}
 
@@ -29,13 +28,17 @@ AreNoneTrusted trust = trusted_stores trust ≡ 0
 abbrev pub IsAllowed : Bool → Trust → Type 0
 IsAllowed trusts trust = trusts ≡ false → AreNoneTrusted trust
 
+-- whether word k of function f is kept, where that stands there
+abbrev pub word_in : Trust → (f k : ℕ) → Option Bool
+word_in trust f k = option_and_then (λ (words : List Bool). slice_get words k) (slice_get trust.words.items f)
+
 -- Tables of reached code trust these stores, by the addresses of its nodes, and keep these words, by the number of a function and that of a word: word k lies 4 * (k + 1)
 -- bytes below what x2 had when its function began.
 pub record IsTrustOf (code : Code) (trust : Trust) (v : Values) (w : Stacks) : Type 0 where
   pub functions : (a : ℕ) → v.function a ≡ owner_of code a
   pub offsets : (k : ℕ) → w.offset k ≡ opposite_of (4 * (k + 1))
-  pub stores : (a : ℕ) → w.doubtful a ≡ beside false code.nodes trust.stores.items a
-  pub words : (f k : ℕ) → w.kept f k ≡ flag (or_other [] (slice_get trust.words.items f)) k
+  pub stores : (a : ℕ) → w.doubtful a ≡ flag_beside code.nodes trust.stores.items a
+  pub words : (f k : ℕ) → (w.kept f k ≡ true) ↔ (word_in trust f k ≡ Some true)
 
 -- In the first n steps of a run of the image no store that is trusted changes a word that is kept, of a function that runs or waits for a call to come back.
 abbrev pub IsTrustKept : Image → Trust → (levels : ℕ) (input : List ℕ) (n : ℕ) → Type 0
