@@ -1,7 +1,7 @@
 //! The bounds of loops that the code shows by itself, for inputs of so many bytes at most, where that is told: tables of the registers and of the stack
 //! are proposed and checked, then for each loop a counter, and that returns go back.
 
-ghost use Rattle.std.specs.Prelude.{◌≡◌, ◌++◌, ◌∷◌, [], false, IfOk, OnOk};
+ghost use Rattle.std.specs.Prelude.{◌≡◌, ◌++◌, ◌∷◌, [], false, None, IfOk, OnOk};
 ghost use Rattle.code_text.specs.Text.{text_of};
 ghost use Rattle.flow_graph.specs.FlowGraph.{IsGraphOf};
 ghost use Rattle.stack_tables.specs.Tables.{IsStackClaim};
@@ -27,6 +27,7 @@ use shown_bounds::{StackCertificate, StackCounter, comes_back, is_shown};
 use stack_checks::is_stack_analysed;
 use stack_tables::{StackClaim, is_stack_sized};
 use std::alloc::Global;
+use tidy_runs::{TidyRun, look_at_run};
 use turn_checks::TurnKind;
 use value_analysis::{Tables, analyse_loops};
 use value_checks::is_sized;
@@ -35,16 +36,21 @@ use wrapped_intervals::Measure;
 /// So many loops times nodes and edges are looked at.
 const MOST_WORK: u64 = 400_000_000;
 
+/// A run that is tried has no more steps.
+const MOST_STEPS: u64 = 10_000_000;
+
 /// Such a bound of a walk through memory is told, and left to whoever knows a lower one: it is the size of the stack, and no deadline is for that.
 const FAR: u32 = 16_384;
 
-/// What is known of each loop, the note that it is to have in the file, whether returns go back, and what is trusted for that and for bounds.
+/// What is known of each loop, the note that it is to have in the file, whether returns go back, and what is trusted for that and for bounds; and, where some stores
+/// are, how far the runs on inputs bear that out.
 #[derive(Drop)]
 pub struct Bounds {
     pub known: Vec<Known>,
     pub notes: Vec<LoopNote>,
     pub returns: bool,
     pub trust: Trust,
+    pub tried: Vec<TidyRun>,
 }
 
 impl Bounds {
@@ -58,6 +64,7 @@ impl Bounds {
             notes: Vec::new(alloc),
             returns,
             trust: Trust::none(alloc),
+            tried: Vec::new(alloc),
         }
     }
 
@@ -72,8 +79,8 @@ impl Bounds {
         Ok(())
     }
 
-    // The same, where so much is trusted for it.
-    fn trusting(self, trust: Trust) -> Bounds
+    // The same, where so much is trusted for it, and runs on inputs bear that out so far.
+    fn trusting(self, trust: Trust, tried: Vec<TidyRun>) -> Bounds
         ensures notes { result.notes ≡ self.notes }
         ensures returns { result.returns ≡ self.returns }
         ensures trust { result.trust ≡ trust }
@@ -83,12 +90,14 @@ impl Bounds {
             notes,
             returns,
             trust: _,
+            tried: _,
         } = self;
         Bounds {
             known,
             notes,
             returns,
             trust,
+            tried,
         }
     }
 
@@ -370,6 +379,26 @@ pub fn open_all(alloc: Global, notes: &LoopNotes, reason: Reason) -> Result<Boun
     Ok(bounds)
 }
 
+// How far the runs on inputs bear out what tables trust, where they trust some stores.
+fn tried_runs(
+    alloc: Global,
+    claim: &StackClaim<'_>,
+    trust: &Trust,
+    inputs: &[Vec<u8>],
+) -> Result<Vec<TidyRun>, NoMemory>
+    requires claim { IsStackClaim claim.now }
+    requires plain { claim.now.view.now.keyed_segment ≡ None }
+{
+    let mut tried = Vec::new(alloc);
+    if trust.count() == 0 {
+        return Ok(tried);
+    }
+    for input in inputs {
+        tried.push(look_at_run(alloc, claim, input, MOST_STEPS)?)?;
+    }
+    Ok(tried)
+}
+
 // The bounds of loops that are taken, by tables that have a row for each node and each function. Nothing is proved of what these trust, so that it is looked
 // at.
 fn bounds_by(
@@ -377,6 +406,7 @@ fn bounds_by(
     claim: &StackClaim<'_>,
     sources: &Sources<'_>,
     notes: &LoopNotes,
+    inputs: &[Vec<u8>],
 ) -> Result<Bounds, NoMemory>
     requires { IsStackClaim claim.now }
     ensures found { IfOk result (λ b. AreBoundsFound claim.now.view.now sources.now.most b.notes.items b.returns b.trust) }
@@ -389,8 +419,9 @@ fn bounds_by(
     if !sources.trusts && trust.count() > 0 {
         return open_all(alloc, notes, Reason::NotAnalysed);
     }
+    let tried = tried_runs(alloc, claim, &trust, inputs)?;
     let bounds = seek_all(alloc, claim, sources, notes)?;
-    Ok(bounds.trusting(trust))
+    Ok(bounds.trusting(trust, tried))
 }
 
 // By loop whether counting it costs little, where loops are to be counted.
@@ -407,11 +438,12 @@ fn loops_to_count(
     }
 }
 
-/// The notes of the loops whose bounds are looked for, whether some of them may be counted, how many bytes an input has at most, where that is told, and whether
+/// The notes of the loops whose bounds are looked for, inputs of the program, whether some of the loops may be counted, how many bytes an input has at most, where that is told, and whether
 /// stores may be trusted.
 #[derive(Clone, Copy)]
-pub struct Wanted<'a> {
+pub struct Wanted<'a, 'b> {
     pub notes: &'a LoopNotes,
+    pub inputs: &'b [Vec<u8>],
     pub counts: bool,
     pub most: Option<u32>,
     pub trusts: bool,
@@ -423,7 +455,7 @@ fn bounds_in(
     view: &ImageView<'_>,
     graph: &CodeGraph,
     tree: &LoopTree,
-    wanted: Wanted<'_>,
+    wanted: Wanted<'_, '_>,
 ) -> Result<Bounds, NoMemory>
     requires { IsGraphOf (text_of view.now) graph.now }
     ensures found { IfOk result (λ b. AreBoundsFound view.now wanted.entry.most b.notes.items b.returns b.trust) }
@@ -448,7 +480,7 @@ fn bounds_in(
         most: wanted.most,
         trusts: wanted.trusts,
     };
-    bounds_by(alloc, &claim, &sources, wanted.notes)
+    bounds_by(alloc, &claim, &sources, wanted.notes, wanted.inputs)
 }
 
 // The bounds of loops that are taken: by tables that trust no store, or by others, where these may be, and show more.
@@ -457,7 +489,7 @@ fn bounds_of(
     view: &ImageView<'_>,
     graph: &CodeGraph,
     tree: &LoopTree,
-    wanted: Wanted<'_>,
+    wanted: Wanted<'_, '_>,
 ) -> Result<Bounds, NoMemory>
     requires { IsGraphOf (text_of view.now) graph.now }
     ensures found { IfOk result (λ b. AreBoundsFound view.now wanted.entry.most b.notes.items b.returns b.trust) }
@@ -465,6 +497,7 @@ fn bounds_of(
 {
     let untrusting = Wanted {
         notes: wanted.notes,
+        inputs: wanted.inputs,
         counts: wanted.counts,
         most: wanted.most,
         trusts: false,
@@ -487,7 +520,7 @@ pub fn find_bounds(
     alloc: Global,
     view: &ImageView<'_>,
     graph: &CodeGraph,
-    wanted: Wanted<'_>,
+    wanted: Wanted<'_, '_>,
 ) -> Result<Bounds, NoMemory>
     requires { IsGraphOf (text_of view.now) graph.now }
     ensures found { IfOk result (λ b. AreBoundsFound view.now wanted.entry.most b.notes.items b.returns b.trust) }

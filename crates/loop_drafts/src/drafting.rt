@@ -136,7 +136,7 @@ pub struct DraftInputs<'a> {
 }
 
 /// An image with its graph, the loops that are found in it, the names and the source lines of its places, how the loops turned in runs, how many bytes an input
-/// has at most, where that is told, and whether stores are trusted.
+/// has at most, where that is told, whether stores are trusted, and some inputs.
 #[derive(Drop)]
 struct Sketch<'a> {
     view: &'a ImageView<'a>,
@@ -147,6 +147,7 @@ struct Sketch<'a> {
     turns: Turns,
     most: Option<u32>,
     trusts: bool,
+    inputs: &'a [Vec<u8>],
 }
 
 // What the comments tell.
@@ -194,6 +195,7 @@ fn pieces_with(alloc: Global, sketch: &Sketch<'_>, bounds: &Bounds) -> Result<Ve
         trusted: Trusted {
             graph: sketch.graph,
             trust: &bounds.trust,
+            tried: &bounds.tried,
         },
     };
     let pieces = pieces_of(alloc, &remarks, found, &bounds.known, first)?;
@@ -256,6 +258,7 @@ fn draft_found(
 {
     let wanted = Wanted {
         notes,
+        inputs: sketch.inputs,
         counts,
         most: sketch.most,
         trusts: sketch.trusts,
@@ -291,6 +294,7 @@ fn draft_sketch(alloc: Global, sketch: &Sketch<'_>) -> Result<LoopDraft, Stop>
         trusted: Trusted {
             graph: sketch.graph,
             trust: &none,
+            tried: &[],
         },
     };
     let pieces = pieces_of(alloc, &remarks, &sketch.found, &known, first)?;
@@ -331,6 +335,7 @@ fn draft_graph<'a, P: Progress>(
         turns,
         most: inputs.most,
         trusts: inputs.trusts,
+        inputs: inputs.items,
     };
     draft_sketch(alloc, &sketch)
 }
