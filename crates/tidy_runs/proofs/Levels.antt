@@ -1,6 +1,6 @@
 -- Without a keyed segment a run doesn't depend on how many levels a machine has, nor on the window.
 use Rattle.std.proofs.Common.{◌≡◌, ℕ, zero, suc, ◌%◌, false, cond, List, [], ◌∷◌, Option, Some, None, refl, ap, sym, ◌∙◌, subst}
-use Rattle.std.specs.Prelude.{◌==◌, not, option_map, IfSome}
+use Rattle.std.specs.Prelude.{◌==◌, ◌&&◌, not, option_map, IfSome}
 use Rattle.std.proofs.lemmas.Bool.{cond-false}
 use Rattle.scale_base.specs.declared.instruction.StoreOp.{StoreOp}
 use Rattle.scale_base.specs.declared.instruction.Instr.{Instr}
@@ -14,14 +14,13 @@ use Rattle.scale_base.specs.declared.stepping.TrapKind.TheVariants as traps
 use Rattle.scale_base.specs.Reading.{instr_of}
 use Rattle.scale_base.specs.declared.ranges.Keyed.{Keyed}
 use Rattle.scale_base.specs.Image.{Image}
-use Rattle.scale_base.specs.Layout.{Layout, can_fetch, can_write, uses_window, layout_of}
+use Rattle.scale_base.specs.Layout.{Layout, can_fetch, can_write, in_option, in_window, is_keyed, uses_window, layout_of}
 use Rattle.scale_base.specs.Arith.{store_width, stored}
 use Rattle.scale_base.specs.State.{Setting, State, word_at, reg}
 use Rattle.scale_base.specs.Service.{served}
 use Rattle.scale_base.specs.Step.{Outcome, stepped, goes, pc_after, stops, stores, stores_word, performs, executes, step}
 use Rattle.scale_base.specs.Run.{Run, Standing, GoesOn, HasExited, HasTrapped, ended, one_more_by, one_more, run, setting_of, start_of, run_of}
 use Rattle.machine_laws.specs.Keys.{setting, with_empty_key, with_window, run_with_window}
-use Rattle.machine_laws.proofs.Keyless.{no_key, no_window}
 use Rattle.machine_laws.proofs.Laws.{run_same}
 use Rattle.bound_laws.specs.Values.{Values}
 use Rattle.tidy_runs.specs.declared.activations.Broken.{Broken}
@@ -30,6 +29,13 @@ use Rattle.stack_laws.specs.Stacks.{Stacks}
 use Rattle.stack_laws.specs.Tidy.{Activation, IsTidy, IsTidyStep, activations, activations_by, activations_behind, begun_at}
 
 -- ---- the number of levels
+
+-- no address lies in a keyed segment that is missing, and an instruction without the key sees no window
+no_key : (l : Layout) (at : ℕ) → l.keyed ≡ None → is_keyed l at ≡ false
+no_key l at none = ap (in_option at) none
+
+no_window : (l : Layout) (pc at width : ℕ) → is_keyed l pc ≡ false → uses_window l pc at width ≡ false
+no_window l pc at width e = ap (λ keyed. keyed && (width == 4) && in_window at) e
 
 module _ (l : Layout) (keyless : l.keyed ≡ None) (k levels : ℕ) (input : List ℕ) where
   stores_same : (s : State) (i : Instr) (op : StoreOp) (at value : ℕ) → stores (setting l levels input) s i op at value ≡ stores (setting l k input) s i op at value

@@ -1,3 +1,4 @@
+pub mod Stores
 pub mod Missing
 pub mod Reading
 pub mod Keeping

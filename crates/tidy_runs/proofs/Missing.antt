@@ -12,7 +12,7 @@ use Rattle.scale_base.specs.State.{Setting, State, reg, word_at}
 use Rattle.scale_base.specs.Service.{served}
 use Rattle.scale_base.specs.Step.{Outcome, jumps, branches, loads, stores, calls_service, performs}
 use Rattle.stack_laws.specs.Stacks.{IsApart}
-use Rattle.stack_laws.proofs.Stores.{AreOut, word_same, apart_out, stores_keep, served_keeps}
+use Rattle.tidy_runs.proofs.Stores.{AreOut, word_same, apart_out, stores_keep, served_keeps}
 
 module _ (env : Setting) (s : State) (at : ℕ) where
   abbrev Leaves : Outcome → Type 0
