@@ -1,6 +1,6 @@
 //! What `all` gives for its files.
 
-ghost use Rattle.std.specs.Prelude.{◌≡◌, ◌<◌, ◌≤◌, ◌++◌, length, string_bytes, true, None, IfOk, IfSome, OnOk};
+ghost use Rattle.std.specs.Prelude.{◌≡◌, ◌<◌, ◌≤◌, ◌++◌, length, string_bytes, true, None, IfOk, IfSome, OnOk, false};
 ghost use Rattle.std.specs.List.{AllZip};
 ghost use Rattle.scale_base.specs.declared.limits.TheConstants.{FILE_LIMIT};
 ghost use Rattle.loop_drafts.specs.Kept.{AreBytes};
