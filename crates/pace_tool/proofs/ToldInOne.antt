@@ -1,5 +1,5 @@
 -- What is told step by step is the answer to `all`.
-use Rattle.std.proofs.Common.{◌≡◌, ◌∙◌, ◌++◌, ◌<◌, ◌≤◌, ℕ, List, length, inl, inr, ap, subst}
+use Rattle.std.proofs.Common.{◌≡◌, ◌∙◌, ◌++◌, ◌<◌, ◌≤◌, ℕ, List, length, inl, inr, ap, subst, false}
 use Rattle.std.specs.Prelude.{Bool, IfOk, Option, Result, Ok, Err}
 use Rattle.scale_base.specs.declared.refusal.NoMemory.{NoMemory}
 use Rattle.scale_base.specs.declared.refusal.Refusal.{Refusal}
